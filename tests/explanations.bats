@@ -323,6 +323,43 @@ batch_told() {
     prints '' 'recu: several record types, use -t¶'
     recu 1 recsel -e 'A =' <(cat f)
     prints '' 'A =¶   ^¶recu: expression: error at byte 3¶'
+    # a line that is refused is told as it was read
+    put f 'A: 1¶no field¶'
+    input=f recu 1 recsel
+    prints '' 'standard input:2: no field¶a field needs a colon after its name, as in Name: value¶recu: line 2: not a field, comment or blank line¶'
+    put f '%rec: P¶%size: many¶'
+    input=f recu 1 recsel
+    prints '' 'standard input:2: %size: many¶%size is in one line, a number or one of < <= > >= and a number, such as >= 2¶recu: line 2: bad descriptor field¶'
+}
+
+# reads_once FILE WORD..: refused, recu opens that file once
+reads_once() {
+    local file=$1
+    shift
+    strace -f -qq -o "$BATS_TEST_TMPDIR/trace" -e trace=openat "$program" "$@" > "$BATS_TEST_TMPDIR/out" 2> "$BATS_TEST_TMPDIR/err" 3>&- && fail "$* is not refused"
+    [ "$(grep -c "\"$file\"" "$BATS_TEST_TMPDIR/trace")" = 1 ] || fail "$*: $(grep "\"$file\"" "$BATS_TEST_TMPDIR/trace")"
+    [ "$(wc -l < "$BATS_TEST_TMPDIR/err")" -gt 1 ] || fail "$*: nothing is said"
+}
+
+@test "a refusal that has its reason needs no second look" {
+    can_trace
+    put f 'A: 1¶no field¶'
+    reads_once f recsel f
+    reads_once f recset -f A -s 2 f
+    put f '%rec: P¶%key: Id¶%key: No¶'
+    reads_once f recsel f
+    reads_once f recins -f A -v 2 f
+    put f 'A: 1¶'
+    put changes 'Tool: recset¶Fields: A¶'
+    reads_once f batch -b changes f
+    does recset -f A -s 2 f
+    does recset -f A -s 3 f
+    local file
+    for file in f f.journal; do
+        reads_once "$file" revert 1 f
+        reads_once "$file" revert 9 f
+        reads_once "$file" show 9 f
+    done
 }
 
 @test "a tool that is needed" {

@@ -37,6 +37,7 @@ fn run(alloc: Global, log: &mut Log) {
     cases!(alloc, log:
         texts::a_field_is_put,
         texts::paragraphs_are_told,
+        texts::a_refusal_has_its_reason,
         expressions::an_expression_selects,
         checks::a_counter_goes_on,
         checks::a_record_names_a_type,

@@ -1,6 +1,6 @@
 //! Calls of `rec_text`.
 use crate::log::are;
-use rec_text::{Fault, put_field, read};
+use rec_text::{Bytes, Fault, Origin, Reason, Refusal, put_field, read};
 use std::alloc::Global;
 
 /// `put_field`, after a field that is there, which stays alone where memory runs out.
@@ -28,4 +28,26 @@ pub fn paragraphs_are_told(alloc: Global) -> Result<bool, Fault> {
     let third = paragraphs.next();
     let are_three = first == Some(0..1) && second == Some(2..5) && third == Some(6..7);
     Ok(are_three && paragraphs.next().is_none())
+}
+
+/// Whether a refusal is of the second edit of a batch and of a text that is to be written.
+fn is_placed(refusal: &Refusal) -> bool {
+    refusal.edit() == Some(1) && matches!(refusal.origin(), Origin::New)
+}
+
+/// `Refusal`, for another fault. Where nothing says what it is about, memory ran out.
+pub fn a_refusal_has_its_reason(alloc: Global) -> Result<bool, Fault> {
+    let name = Reason::Name(Bytes::copy_of(alloc, b"Id")?);
+    let refusal = Refusal::from(Fault::BadName)
+        .about(alloc, Some(name))
+        .of_edit(Some(1))
+        .of_text(Origin::New)
+        .with_fault(Fault::BadValue);
+    match refusal.reason() {
+        Some(Reason::Name(name)) => {
+            Ok(are(name.as_slice(), b"Id") && is_placed(&refusal) && refusal.fault().number() == 14)
+        }
+        Some(_) => Ok(false),
+        None => Err(Fault::OutOfMemory),
+    }
 }

@@ -4,6 +4,7 @@ pub mod Types
 pub mod Resolving
 pub mod Meanings
 pub mod Descriptors
+pub mod Breaches
 pub mod Rules
 pub mod Sets
 pub mod Schemas

@@ -2,6 +2,7 @@
 pub mod descriptor;
 pub mod descriptor_fault;
 pub mod draft;
+mod field_place;
 pub mod patterns;
 pub mod special;
 pub mod type_names;

@@ -1,6 +1,6 @@
 //! A text that was read: its elements, and its record sets with their rules.
 use crate::schema::Schema;
-use rec_text::{Database, Fault, read};
+use rec_text::{Database, Refusal, read};
 use std::alloc::Global;
 use std::marker::Model;
 
@@ -34,11 +34,14 @@ impl<'t> RecFile<'t> {
     ghost use Rattle.rec_check.specs.DescribedTexts.{BelongTogether, IsDescribedText, described_text};
 
     /// Reads a text: its elements, and then its descriptors. The first faulty line or field is refused.
-    pub fn read(alloc: Global, text: &'t [u8]) -> Result<RecFile<'t>, Fault>
+    pub fn read(alloc: Global, text: &'t [u8]) -> Result<RecFile<'t>, Refusal>
         ensures found { IfOk result (λ file. IsDescribedText text.now (Ok (described_text file))) }
         ensures refused { IfErr result (λ fault. IsMemoryOr fault (IsDescribedText text.now (Err fault))) }
     {
-        let database = read(alloc, text)?;
+        let database = match read(alloc, text) {
+            Ok(database) => database,
+            Err(fault) => return Err(Refusal::unread(alloc, text, fault)),
+        };
         let schema = Schema::read(alloc, &database)?;
         Ok(RecFile { database, schema })
     }

@@ -7,7 +7,7 @@ use crate::descriptors::draft::Draft;
 use crate::descriptors::type_names::TypeNames;
 use crate::rules::Rules;
 use crate::set::{Set_, members_of};
-use rec_text::{Database, Fault, Violation, elements_in};
+use rec_text::{Database, Fault, Refusal, Violation, elements_in};
 use std::alloc::Global;
 use std::ops::Range;
 
@@ -33,7 +33,7 @@ impl Schema {
     ghost use Rattle.rec_check.specs.Walking.{AreWithin};
 
     /// Reads the descriptors of a text. The first faulty field is refused with its line.
-    pub fn read(alloc: Global, database: &Database) -> Result<Schema, Fault>
+    pub fn read(alloc: Global, database: &Database) -> Result<Schema, Refusal>
         ensures found { IfOk result (λ schema. IsSchema database.now (Ok (described schema))) }
         ensures refused { IfErr result (λ fault. IsMemoryOr fault (IsSchema database.now (Err fault))) }
     {

@@ -7,11 +7,11 @@ ghost use Rattle.rec_command.specs.Status.{Says, fault_line, line_of, status_of}
 use itoa::Buffer;
 use rec_select::put_parts;
 use rec_text::Message;
-use rec_tools::{Fault, Reply, Sink};
+use rec_tools::{Fault, Refusal, Reply, Sink};
 
 /// Prints the line of a fault, cut where the sink fails. The result is the exit status; help, which is no reply, ends
 /// well.
-pub fn finish<W: Sink>(answer: &Result<Option<Reply>, Fault>, err: &mut W) -> u8
+pub fn finish<W: Sink>(answer: &Result<Option<Reply>, Refusal>, err: &mut W) -> u8
     ensures status { result ≡ status_of answer.now }
     ensures line { Says W.contents W.failure_count err.old err.new (line_of answer.now) }
     ensures silent { OnOk answer.now (err.new ≡ err.old) }
@@ -19,8 +19,8 @@ pub fn finish<W: Sink>(answer: &Result<Option<Reply>, Fault>, err: &mut W) -> u8
     match answer {
         Ok(Some(Reply::Violated(_))) => 1,
         Ok(_) => 0,
-        Err(fault) => {
-            let _ = put_line(err, fault);
+        Err(refusal) => {
+            let _ = put_line(err, refusal.fault());
             1
         }
     }

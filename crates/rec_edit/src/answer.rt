@@ -1,6 +1,6 @@
 //! What edits come to.
 use rec_journal::EditSteps;
-use rec_text::{Bytes, Fault};
+use rec_text::{Bytes, Fault, Refusal};
 
 /// What edits make of a text in turn: the steps that lead from it to the text after them, one for each edit that changes
 /// something, the sum of the numbers of records that the edits changed, and that of those that they selected, where one of
@@ -27,5 +27,16 @@ impl From<RefusedEdit> for Fault {
 
     fn from(refused: RefusedEdit) -> Fault {
         refused.fault
+    }
+}
+
+impl From<RefusedEdit> for Refusal {
+    ghost use Rattle.std.specs.Prelude.{◌≡◌};
+
+    ghost from_gives = { λ refused refusal. refusal ≡ refused.fault };
+
+    fn from(refused: RefusedEdit) -> Refusal {
+        let RefusedEdit { fault, index } = refused;
+        Refusal::from(fault).of_edit(index)
     }
 }

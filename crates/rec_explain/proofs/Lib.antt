@@ -1,3 +1,2 @@
-mod LaterLemmas
 mod LineExamples
 mod LineLemmas

@@ -11,8 +11,7 @@ pub struct About<'a> {
     pub journal: &'a str,
     /// The text of the file as it is now. There is none where it can't be read again, as standard input.
     pub text: Option<&'a [u8]>,
-    /// The history, as `history` prints it, where a refusal is about one of its edits or about the texts of these, or an edit was
-    /// tried.
+    /// The history, as `history` prints it, where an edit was tried.
     pub history: Option<&'a [u8]>,
     /// The bytes of the journal, where a refusal is about what a revert would leave, or about edits that were undone, or where an
     /// edit was made.

@@ -1,7 +1,6 @@
 //! Automatic fields that have no next number.
 use crate::about::About;
-use crate::descriptors::kinds::{last_said, meaning_of};
-use crate::descriptors::words::first_word;
+use crate::descriptors::kinds::{first_word, last_said, meaning_of};
 use crate::explanation::Explanation;
 use crate::lines::places::{elements_of, field_of, within};
 use crate::lines::shown::plain;

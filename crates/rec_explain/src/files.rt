@@ -4,6 +4,7 @@ ghost use Rattle.rec_explain.specs.Lines.{AreLines, IsShown};
 
 use crate::about::About;
 use crate::explanation::Explanation;
+use rec_text::Outside;
 use rec_tools::{EditRequest, Fault, Request};
 use std::alloc::Global;
 
@@ -105,22 +106,22 @@ fn explain_journal(about: &About<'_>, line: usize, said: &mut Explanation) {
     ]);
 }
 
-/// Says what can be done where the edits no longer lead to the file or from it: whether the file was changed, or the journal, is
-/// seen by the history.
-pub fn explain_drift(about: &About<'_>, request: &Request, said: &mut Explanation) {
-    let Some(history) = about.history else {
-        return;
-    };
-    if history == b"drifted\n".as_slice() {
-        said.add(&[
+/// Says what can be done where the edits no longer lead to the file or from it.
+pub fn explain_drift(
+    about: &About<'_>,
+    request: &Request,
+    outside: Outside,
+    said: &mut Explanation,
+) {
+    match outside {
+        Outside::File => said.add(&[
             about.file,
             ": if the text of the last edit is brought back to the byte, it can be undone; the next edit begins a new history",
-        ]);
-    } else {
-        said.add(&[
+        ]),
+        Outside::Journal => said.add(&[
             about.journal,
             ": a text in it was changed; move it away to go on without the history",
-        ]);
+        ]),
     }
     if matches!(request, Request::Forget { .. }) {
         said.add(&[

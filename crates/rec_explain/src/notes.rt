@@ -172,6 +172,6 @@ fn records(count: usize) -> &'static str {
 }
 
 /// The name of a tool.
-pub fn name_of(tool: Tool) -> &'static str {
+fn name_of(tool: Tool) -> &'static str {
     str::from_utf8(tool.name()).unwrap_or("")
 }

@@ -1,6 +1,4 @@
-//! Edits that are to be reverted: the later ones that are in the way, and what would be left without an edit.
+//! Edits that are to be reverted: what keeps one from that, and what would be left without it.
 pub mod changes;
-mod in_effect;
-pub mod later_edits;
 pub mod left;
-mod places;
+pub mod obstacles;

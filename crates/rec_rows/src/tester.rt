@@ -1,7 +1,9 @@
 //! A home on which requests are run, and what is found there.
 use crate::log::Log;
 use crate::narrow::Narrow;
-use rec_tools::{Bytes, Fault, Home, MemoryHome, Output, Reply, Request, Sink, run, run_all};
+use rec_tools::{
+    Bytes, Fault, Home, MemoryHome, Output, Refusal, Reply, Request, Sink, run, run_all,
+};
 use std::alloc::{AllocError, Global};
 
 pub const STORE_FAILED: &str = "23 a file could not be read or written";
@@ -33,7 +35,7 @@ pub struct Tester {
 }
 
 /// Adds an answer in words.
-fn say(said: &mut String, answer: &Result<Reply, Fault>) -> Result<(), AllocError> {
+fn say(said: &mut String, answer: &Result<Reply, Refusal>) -> Result<(), AllocError> {
     match answer {
         Ok(Reply::Shown) => said.push_str("shown"),
         Ok(Reply::Violated(count)) => write!(said, "violated {count}"),
@@ -47,12 +49,15 @@ fn say(said: &mut String, answer: &Result<Reply, Fault>) -> Result<(), AllocErro
             said,
             "forgotten {older}, dropped {dropped}"
         ),
-        Err(fault) => write!(said, "{} {fault}", fault.number()),
+        Err(refusal) => {
+            let fault = refusal.fault();
+            write!(said, "{} {fault}", fault.number())
+        }
     }
 }
 
 /// Adds answers in words, one in a line.
-fn say_all(said: &mut String, answers: &[Result<Reply, Fault>]) -> Result<(), AllocError> {
+fn say_all(said: &mut String, answers: &[Result<Reply, Refusal>]) -> Result<(), AllocError> {
     for answer in answers {
         say(said, answer)?;
         said.push('\n')?;

@@ -16,18 +16,23 @@ ghost use Rattle.rec_tools.specs.Batches.{names_for as names_of_tool, is_known a
 ghost use Rattle.rec_tools.specs.Requests.{HasOneAnswer};
 ghost use Rattle.rec_tools.specs.proving.Finding.{FindsPart, AreEditsIn, unread_by};
 
+use crate::bad_edits::{ACTIONS, SELECTIONS, excluded, other_value, repeated, toolless, unfit};
 use crate::request::{Ask, EditRequest, Pick};
 use rec_edit::{Action, NewRecord};
 use rec_journal::Tool;
-use rec_text::{Bytes, Database, Element, Fault, OrMemory, Value, elements_in, read};
+use rec_text::Space::BlankOrNewline;
+use rec_text::{
+    BadEdit, Bytes, Database, Element, Fault, Needed, OrMemory, Reason, Refusal, Value, Wanted,
+    elements_in, read,
+};
 use std::alloc::{AllocError, Global};
 
-/// A record is no edit.
-#[derive(Clone, Copy)]
-struct NotAnEdit;
+/// A record is no edit, and why, as far as there was memory to tell it.
+#[derive(Drop)]
+struct NotAnEdit(Option<BadEdit>);
 
-/// That a record is no edit, or that memory ran out.
-type Refusal = OrMemory<NotAnEdit>;
+/// What is answered of a record, which may be no edit.
+type EditResult<T> = Result<T, OrMemory<NotAnEdit>>;
 
 /// The bytes of a value, as one's own.
 fn bytes_from(alloc: Global, value: Value<'_>) -> Result<Bytes, AllocError>
@@ -40,7 +45,7 @@ fn bytes_from(alloc: Global, value: Value<'_>) -> Result<Bytes, AllocError>
 }
 
 /// The value of a field.
-fn value_of(alloc: Global, field: &Element<'_>) -> Result<Bytes, Refusal>
+fn value_of(alloc: Global, field: &Element<'_>) -> EditResult<Bytes>
     ensures value { IfOk result (λ bytes. bytes ≡ value_of_piece (piece_of field.now)) }
     ensures refusals { IfErr result (λ refusal. refusal ≡ OutOfMemory) }
 {
@@ -51,7 +56,7 @@ fn value_of(alloc: Global, field: &Element<'_>) -> Result<Bytes, Refusal>
 }
 
 /// The values of the fields of a name, in their order.
-fn values_of(alloc: Global, own: &[Element<'_>], name: &[u8]) -> Result<Vec<Bytes>, Refusal>
+fn values_of(alloc: Global, own: &[Element<'_>], name: &[u8]) -> EditResult<Vec<Bytes>>
     ensures values { IfOk result (λ values. values.items ≡ values_named name.now (pieces_of own.now)) }
     ensures refusals { IfErr result (λ refusal. refusal ≡ OutOfMemory) }
 {
@@ -65,74 +70,105 @@ fn values_of(alloc: Global, own: &[Element<'_>], name: &[u8]) -> Result<Vec<Byte
 }
 
 /// The value of the one field of a name, if it is there.
-fn value_named(alloc: Global, own: &[Element<'_>], name: &[u8]) -> Result<Option<Bytes>, Refusal>
+fn value_named(
+    alloc: Global,
+    database: &Database<'_>,
+    own: &[Element<'_>],
+    name: &[u8],
+) -> EditResult<Option<Bytes>>
     ensures { FindsPart (HasOnly name.now (pieces_of own.now)) result }
 {
     let mut values = values_of(alloc, own, name)?;
     let value = values.pop();
     if !values.is_empty() {
-        return Err(OrMemory::Refused(NotAnEdit));
+        return Err(OrMemory::Refused(NotAnEdit(repeated(database, own, name))));
     }
     Ok(value)
 }
 
 /// Whether the one field of a name is there, of which the value must be this word.
-fn has_word(alloc: Global, own: &[Element<'_>], name: &[u8], word: &[u8]) -> Result<bool, Refusal>
+fn has_word(
+    alloc: Global,
+    database: &Database<'_>,
+    own: &[Element<'_>],
+    name: &[u8],
+    word: &[u8],
+) -> EditResult<bool>
     ensures { FindsPart (HasWord name.now word.now (pieces_of own.now)) result }
 {
-    let Some(value) = value_named(alloc, own, name)? else {
+    let Some(value) = value_named(alloc, database, own, name)? else {
         return Ok(false);
     };
     if value.as_slice() != word {
-        return Err(OrMemory::Refused(NotAnEdit));
+        let is_padded = BlankOrNewline.trim(value.as_slice()) == word;
+        let wrong = other_value(database, own, name, wanted(word), is_padded);
+        return Err(OrMemory::Refused(NotAnEdit(wrong)));
     }
     Ok(true)
 }
 
+/// The value that a field is to have, by its word.
+fn wanted(word: &[u8]) -> Wanted {
+    if word == b"yes".as_slice() {
+        Wanted::Yes
+    } else {
+        Wanted::No
+    }
+}
+
 /// The records that are selected.
-fn pick_of(alloc: Global, own: &[Element<'_>]) -> Result<Pick, Refusal>
+fn pick_of(alloc: Global, database: &Database<'_>, own: &[Element<'_>]) -> EditResult<Pick>
     ensures { FindsPart (IsPickOf (pieces_of own.now)) result }
 {
-    let kind = value_named(alloc, own, b"Type")?;
-    let expression = value_named(alloc, own, b"Expression")?;
-    let number = value_named(alloc, own, b"Number")?;
-    let quick = value_named(alloc, own, b"Quick")?;
+    let kind = value_named(alloc, database, own, b"Type")?;
+    let expression = value_named(alloc, database, own, b"Expression")?;
+    let number = value_named(alloc, database, own, b"Number")?;
+    let quick = value_named(alloc, database, own, b"Quick")?;
     match Ask::of(expression, number, quick, None) {
         Some(by) => Ok(Pick { kind, by }),
-        None => Err(OrMemory::Refused(NotAnEdit)),
+        None => Err(OrMemory::Refused(NotAnEdit(excluded(database, own, SELECTIONS)))),
     }
 }
 
 /// What is done to the fields of the records that are selected.
-fn action_of(alloc: Global, own: &[Element<'_>]) -> Result<Action, Refusal>
+fn action_of(alloc: Global, database: &Database<'_>, own: &[Element<'_>]) -> EditResult<Action>
     ensures { FindsPart (IsActionOf (pieces_of own.now)) result }
 {
-    let set = value_named(alloc, own, b"Set")?;
-    let add = value_named(alloc, own, b"Add")?;
-    let set_add = value_named(alloc, own, b"SetAdd")?;
-    let rename = value_named(alloc, own, b"Rename")?;
-    let deletes = has_word(alloc, own, b"Delete", b"yes")?;
-    let comments = has_word(alloc, own, b"Comment", b"yes")?;
-    Action::of(set, add, set_add, rename, deletes, comments).ok_or(OrMemory::Refused(NotAnEdit))
+    let set = value_named(alloc, database, own, b"Set")?;
+    let add = value_named(alloc, database, own, b"Add")?;
+    let set_add = value_named(alloc, database, own, b"SetAdd")?;
+    let rename = value_named(alloc, database, own, b"Rename")?;
+    let deletes = has_word(alloc, database, own, b"Delete", b"yes")?;
+    let comments = has_word(alloc, database, own, b"Comment", b"yes")?;
+    match Action::of(set, add, set_add, rename, deletes, comments) {
+        Some(action) => Ok(action),
+        None => {
+            let wrong = excluded(database, own, ACTIONS).or(Some(BadEdit::Lacks(Needed::Action)));
+            Err(OrMemory::Refused(NotAnEdit(wrong)))
+        }
+    }
 }
 
 /// The new record.
-fn fresh_of(alloc: Global, own: &[Element<'_>]) -> Result<NewRecord, Refusal>
+fn fresh_of(alloc: Global, database: &Database<'_>, own: &[Element<'_>]) -> EditResult<NewRecord>
     ensures { FindsPart (IsFreshOf (pieces_of own.now)) result }
 {
     let names = values_of(alloc, own, b"Field")?;
     let values = values_of(alloc, own, b"Value")?;
-    let text = value_named(alloc, own, b"Record")?;
-    NewRecord::of(alloc, names, values, text)?.ok_or(OrMemory::Refused(NotAnEdit))
+    let text = value_named(alloc, database, own, b"Record")?;
+    match NewRecord::of(alloc, names, values, text)? {
+        Some(fresh) => Ok(fresh),
+        None => Err(OrMemory::Refused(NotAnEdit(unfit(database, own)))),
+    }
 }
 
 /// What a record asks recins for: to put a record in, or instead of each that is selected.
-fn insertion(alloc: Global, own: &[Element<'_>]) -> Result<EditRequest, Refusal>
+fn insertion(alloc: Global, database: &Database<'_>, own: &[Element<'_>]) -> EditResult<EditRequest>
     ensures { FindsPart (AsksTool RecIns (pieces_of own.now)) result }
 {
-    let Pick { kind, by } = pick_of(alloc, own)?;
-    let fresh = fresh_of(alloc, own)?;
-    let auto = !has_word(alloc, own, b"Auto", b"no")?;
+    let Pick { kind, by } = pick_of(alloc, database, own)?;
+    let fresh = fresh_of(alloc, database, own)?;
+    let auto = !has_word(alloc, database, own, b"Auto", b"no")?;
     match by {
         Ask::All => Ok(EditRequest::Insert { kind, fresh, auto }),
         by => {
@@ -143,11 +179,11 @@ fn insertion(alloc: Global, own: &[Element<'_>]) -> Result<EditRequest, Refusal>
 }
 
 /// What a record asks recdel for: to delete records, or to make comments of them.
-fn deletion(alloc: Global, own: &[Element<'_>]) -> Result<EditRequest, Refusal>
+fn deletion(alloc: Global, database: &Database<'_>, own: &[Element<'_>]) -> EditResult<EditRequest>
     ensures { FindsPart (AsksTool RecDel (pieces_of own.now)) result }
 {
-    let pick = pick_of(alloc, own)?;
-    if has_word(alloc, own, b"Comment", b"yes")? {
+    let pick = pick_of(alloc, database, own)?;
+    if has_word(alloc, database, own, b"Comment", b"yes")? {
         Ok(EditRequest::CommentOut(pick))
     } else {
         Ok(EditRequest::Delete(pick))
@@ -155,21 +191,21 @@ fn deletion(alloc: Global, own: &[Element<'_>]) -> Result<EditRequest, Refusal>
 }
 
 /// What a record asks recset for.
-fn setting(alloc: Global, own: &[Element<'_>]) -> Result<EditRequest, Refusal>
+fn setting(alloc: Global, database: &Database<'_>, own: &[Element<'_>]) -> EditResult<EditRequest>
     ensures { FindsPart (AsksTool RecSet (pieces_of own.now)) result }
 {
-    let Some(list) = value_named(alloc, own, b"Fields")? else {
-        return Err(OrMemory::Refused(NotAnEdit));
+    let Some(list) = value_named(alloc, database, own, b"Fields")? else {
+        return Err(OrMemory::Refused(NotAnEdit(Some(BadEdit::Lacks(Needed::Fields)))));
     };
     Ok(EditRequest::Set {
-        pick: pick_of(alloc, own)?,
+        pick: pick_of(alloc, database, own)?,
         list,
-        action: action_of(alloc, own)?,
+        action: action_of(alloc, database, own)?,
     })
 }
 
 /// The tool of an edit that a word names, if it names one; a batch is no edit.
-pub fn tool_by(word: &[u8]) -> Option<Tool>
+fn tool_by(word: &[u8]) -> Option<Tool>
     ensures { MatchOption result ((tool : ToolOf) → tool ≢ BatchTool → word.now ≡ tool_name tool → ⊥)
         (λ tool. (word.now ≡ tool_name tool) × (tool ≢ BatchTool)) }
 {
@@ -187,7 +223,7 @@ pub fn tool_by(word: &[u8]) -> Option<Tool>
 }
 
 /// The names of the fields that an edit by a tool may have.
-pub fn names_for(tool: Tool) -> &'static [&'static [u8]]
+fn names_for(tool: Tool) -> &'static [&'static [u8]]
     ensures { map (λ name. name.now) result.now ≡ names_of_tool tool }
 {
     match tool {
@@ -252,34 +288,60 @@ fn are_known(own: &[Element<'_>], names: &[&[u8]]) -> bool
     true
 }
 
+/// The first field that a tool doesn't take.
+fn not_taken(
+    alloc: Global,
+    database: &Database<'_>,
+    own: &[Element<'_>],
+    tool: Tool,
+) -> Option<BadEdit> {
+    let field = own
+        .iter()
+        .find(|element| !is_known(element, names_for(tool)))?;
+    Some(BadEdit::Unknown {
+        line: database.line_of(field.at),
+        tool: Bytes::copy_of(alloc, tool.name()).ok()?,
+    })
+}
+
 /// The tool that a record is for, of which it has no fields but those that the tool takes.
-fn tool_of(alloc: Global, own: &[Element<'_>]) -> Result<Tool, Refusal>
+fn tool_of(alloc: Global, database: &Database<'_>, own: &[Element<'_>]) -> EditResult<Tool>
     ensures { FindsPart (λ tool. IsBy tool (pieces_of own.now) × (tool ≢ BatchTool)) result }
 {
-    let Some(word) = value_named(alloc, own, b"Tool")? else {
-        return Err(OrMemory::Refused(NotAnEdit));
+    let Some(word) = value_named(alloc, database, own, b"Tool")? else {
+        return Err(OrMemory::Refused(NotAnEdit(toolless(own))));
     };
     match tool_by(word.as_slice()) {
         Some(tool) if are_known(own, names_for(tool)) => Ok(tool),
-        _ => Err(OrMemory::Refused(NotAnEdit)),
+        Some(tool) => Err(OrMemory::Refused(NotAnEdit(not_taken(alloc, database, own, tool)))),
+        None => {
+            let is_padded = tool_by(BlankOrNewline.trim(word.as_slice())).is_some();
+            let wrong = other_value(database, own, b"Tool", Wanted::Tool, is_padded);
+            Err(OrMemory::Refused(NotAnEdit(wrong)))
+        }
     }
 }
 
 /// The edit that a record asks for.
-fn edit_of(alloc: Global, own: &[Element<'_>]) -> Result<EditRequest, Refusal>
+fn edit_of(alloc: Global, database: &Database<'_>, own: &[Element<'_>]) -> EditResult<EditRequest>
     ensures { FindsPart (AsksFor (pieces_of own.now)) result }
 {
-    match tool_of(alloc, own)? {
-        Tool::RecIns => insertion(alloc, own),
-        Tool::RecDel => deletion(alloc, own),
-        Tool::RecSet => setting(alloc, own),
+    match tool_of(alloc, database, own)? {
+        Tool::RecIns => insertion(alloc, database, own),
+        Tool::RecDel => deletion(alloc, database, own),
+        Tool::RecSet => setting(alloc, database, own),
         Tool::RecFix => Ok(EditRequest::AutoFill),
-        Tool::Batch => Err(OrMemory::Refused(NotAnEdit)),
+        Tool::Batch => Err(OrMemory::Refused(NotAnEdit(None))),
     }
 }
 
+/// The reason of a record that is no edit.
+fn reason_of(wrong: Option<BadEdit>) -> Option<Reason> {
+    Some(Reason::Edit(wrong?))
+}
+
 /// The edits of a text that was read.
-fn edits_of(alloc: Global, database: &Database<'_>) -> Result<Vec<EditRequest>, Fault>
+fn edits_of(alloc: Global, database: &Database<'_>) -> Result<Vec<EditRequest>, Refusal>
     ensures found { IfOk result (λ edits. AreEditsIn database.now (Ok edits.items)) }
     ensures refused { IfErr result (λ fault. IsMemoryOr fault (AreEditsIn database.now (Err fault))) }
 {
@@ -287,31 +349,36 @@ fn edits_of(alloc: Global, database: &Database<'_>) -> Result<Vec<EditRequest>, 
     let records = database.records().as_slice();
     let mut edits = Vec::with_capacity(alloc, records.len())?;
     for record in records {
-        match edit_of(alloc, elements_in(elements, record)) {
+        match edit_of(alloc, database, elements_in(elements, record)) {
             Ok(edit) => edits.push(edit)?,
-            Err(OrMemory::Refused(_)) => {
+            Err(OrMemory::Refused(NotAnEdit(wrong))) => {
                 let line = database.line_of(database.place_of(record.start));
-                return Err(Fault::BadBatch { line });
+                let refusal = Refusal::from(Fault::BadBatch { line });
+                return Err(refusal.about(alloc, reason_of(wrong)));
             }
-            Err(OrMemory::OutOfMemory) => return Err(Fault::OutOfMemory),
+            Err(OrMemory::OutOfMemory) => return Err(Refusal::from(Fault::OutOfMemory)),
         }
     }
     Ok(edits)
 }
 
-/// The fault of a batch that can't be read, by the fault of reading it.
-fn unread(fault: Fault) -> Fault
+/// The refusal of a batch that can't be read, by the fault of reading it.
+fn unread(alloc: Global, text: &[u8], fault: Fault) -> Refusal
     ensures { result ≡ unread_by fault }
 {
-    match fault {
-        Fault::BadLine { line } | Fault::OpenLine { line } => Fault::BadBatch { line },
-        fault => fault,
+    let refusal = Refusal::unread(alloc, text, fault);
+    match refusal.fault() {
+        Fault::BadLine { line } | Fault::OpenLine { line } => {
+            let line = *line;
+            refusal.with_fault(Fault::BadBatch { line })
+        }
+        _ => refusal,
     }
 }
 
 /// The edits that a rec text asks for, one in each record. Refused where the text can't be read, and where a record is no edit;
 /// the first faulty record decides.
-pub fn batch_edits(alloc: Global, text: &[u8]) -> Result<Vec<EditRequest>, Fault>
+pub fn batch_edits(alloc: Global, text: &[u8]) -> Result<Vec<EditRequest>, Refusal>
     ensures found { IfOk result (λ edits. AreEdits text.now (Ok edits.items)) }
     ensures refused { IfErr result (λ fault. IsMemoryOr fault (AreEdits text.now (Err fault))) }
 
@@ -320,6 +387,6 @@ pub fn batch_edits(alloc: Global, text: &[u8]) -> Result<Vec<EditRequest>, Fault
 {
     match read(alloc, text) {
         Ok(database) => edits_of(alloc, &database),
-        Err(fault) => Err(unread(fault)),
+        Err(fault) => Err(unread(alloc, text, fault)),
     }
 }

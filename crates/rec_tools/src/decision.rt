@@ -15,12 +15,13 @@ use crate::editing::make;
 use crate::history::history_of;
 use crate::request::{EditRequest, Reply, Request};
 use crate::reverting::reverted;
+use crate::telling::refused_on;
 use rec_check::RecFile;
 use rec_edit::Edited;
 use rec_journal::{
     Direction, EditSteps, Hashed, History, MovePlan, Plan, Tool, plan_forget, plan_move, plan_steps,
 };
-use rec_text::{Bytes, Fault};
+use rec_text::{Bytes, Fault, Refusal};
 use std::alloc::Global;
 use std::slice;
 
@@ -100,7 +101,7 @@ fn made_from(
     file: RecFile,
     source: Source<'_>,
     force: bool,
-) -> Result<(Tool, Edited), Fault>
+) -> Result<(Tool, Edited), Refusal>
     ensures found { UnlessMemory result (IsMade (AreEditsFrom source.entry force) (text_of file.entry.pieces)) }
     ensures steps { IfOk result (HasSteps (text_of file.entry.pieces)) }
     ensures refusals { IfErr result IsRefusal }
@@ -127,7 +128,7 @@ fn put_edited(
     tool: Tool,
     edited: Edited,
     reply: Reply,
-) -> Result<Decision, Fault>
+) -> Result<Decision, Refusal>
     requires opened { IsOpening file.now journal.now (Ok history.now) }
     requires steps { HasSteps file.now (tool, edited) }
     ensures found { UnlessMemory result (λ answer. IsEditOutcome history.now
@@ -152,7 +153,7 @@ fn decide_on(
     journal: &[u8],
     source: Source<'_>,
     force: bool,
-) -> Result<Decision, Fault>
+) -> Result<Decision, Refusal>
     ensures found { UnlessMemory result (Decides file.now journal.now (editing (AreEditsFrom source.entry force))) }
     ensures course { IfOk result (HasCourse file.now journal.now) }
     ensures refusals { IfErr result IsRefusal }
@@ -175,7 +176,7 @@ fn decide_edit(
     journal: &[u8],
     source: Source<'_>,
     force: bool,
-) -> Result<Decision, Fault>
+) -> Result<Decision, Refusal>
     ensures found { UnlessMemory result (Decides file.now journal.now (editing (AreEditsFrom source.entry force))) }
     ensures course { IfOk result (HasCourse file.now journal.now) }
     ensures refusals { IfErr result IsRefusal }
@@ -191,7 +192,7 @@ fn decide_revert_on(
     journal: &[u8],
     number: usize,
     force: bool,
-) -> Result<Decision, Fault>
+) -> Result<Decision, Refusal>
     ensures found { UnlessMemory result (Decides file.now journal.now (reverting number force)) }
     ensures course { IfOk result (HasCourse file.now journal.now) }
     ensures refusals { IfErr result IsRefusal }
@@ -214,7 +215,7 @@ fn decide_revert(
     journal: &[u8],
     number: usize,
     force: bool,
-) -> Result<Decision, Fault>
+) -> Result<Decision, Refusal>
     ensures found { UnlessMemory result (Decides file.now journal.now (reverting number force)) }
     ensures course { IfOk result (HasCourse file.now journal.now) }
     ensures refusals { IfErr result IsRefusal }
@@ -240,16 +241,21 @@ fn decide_move(
     journal: &[u8],
     direction: Direction,
     through: Option<usize>,
-) -> Result<Decision, Fault>
+) -> Result<Decision, Refusal>
     ensures found { UnlessMemory result (Decides file.now journal.now (moving direction through)) }
     ensures course { IfOk result (HasCourse file.now journal.now) }
     ensures refusals { IfErr result IsRefusal }
 {
     let history = history_of(alloc, file, journal)?;
+    let way = Some(direction);
     if history.lacks(direction, through) {
-        return Err(Fault::NoSuchEdit);
+        return Err(refused_on(alloc, &history, way, Fault::NoSuchEdit));
     }
-    let MovePlan { plan, number, tool } = plan_move(alloc, direction, &history, file, journal)?;
+    let moved = match plan_move(alloc, direction, &history, file, journal) {
+        Ok(moved) => moved,
+        Err(fault) => return Err(refused_on(alloc, &history, way, fault)),
+    };
+    let MovePlan { plan, number, tool } = moved;
     let reply = reply_of(direction, number, tool);
     match history.into_steps(direction) {
         Some(steps) => Ok(put_plan(plan, direction, steps, reply)),
@@ -271,14 +277,14 @@ fn decide_forgetting(
     journal: &[u8],
     newest: usize,
     dropping: bool,
-) -> Result<Decision, Fault>
+) -> Result<Decision, Refusal>
     ensures found { UnlessMemory result (Decides file.now journal.now (forgetting newest dropping)) }
     ensures course { IfOk result (HasCourse file.now journal.now) }
     ensures refusals { IfErr result IsRefusal }
 {
     let history = history_of(alloc, file, journal)?;
     if history.is_drifted() {
-        return Err(Fault::Drifted);
+        return Err(refused_on(alloc, &history, None, Fault::Drifted));
     }
     let undos = history.undos();
     let older = undos.saturating_sub(newest);
@@ -301,7 +307,7 @@ pub fn decide(
     file: &[u8],
     journal: &[u8],
     request: &Request,
-) -> Result<Decision, Fault>
+) -> Result<Decision, Refusal>
     requires { IsSilent (asked_of request.now) }
     ensures found { UnlessMemory result (Decides file.now journal.now (asked_of request.now)) }
 

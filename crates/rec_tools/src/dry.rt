@@ -18,7 +18,7 @@ use crate::runner::read_both;
 use crate::through::{Through, leads_on, move_through, moved_by};
 use rec_diff::DiffStyle;
 use rec_journal::Direction;
-use rec_text::{Bytes, Fault, Sink};
+use rec_text::{Bytes, Refusal, Sink};
 use std::alloc::Global;
 
 /// The new text of a file.
@@ -67,7 +67,7 @@ fn preview_on<S: Sink>(
     out: &mut S,
     request: &Request,
     style: &DiffStyle,
-) -> Result<Reply, Fault>
+) -> Result<Reply, Refusal>
     requires { IsSilent (asked_of request.now) }
     ensures { IsDryMove S.contents S.failure_count style.now (asked_of request.now)
         (contents file.old journal.old) (contents file.new journal.new) out.old out.new result }
@@ -92,7 +92,7 @@ fn preview_once<S: Sink>(
     direction: Direction,
     number: usize,
     style: &DiffStyle,
-) -> Result<Reply, Fault>
+) -> Result<Reply, Refusal>
     ensures { IsDryMove S.contents S.failure_count style.now (asked_of (move_through direction number))
         (contents file.old journal.old) (contents file.new journal.new) out.old out.new result }
 {
@@ -169,7 +169,7 @@ pub fn preview_through<H: Home, S: Sink>(
         Err(fault) => Through {
             first: None,
             last: None,
-            answer: Err(fault),
+            answer: Err(Refusal::from(fault)),
         },
     }
 }

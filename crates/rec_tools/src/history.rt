@@ -11,7 +11,7 @@ use crate::request::Reply;
 use itoa::Buffer;
 use rec_journal::{Hashed, History, Step, Steps};
 use rec_select::put_parts;
-use rec_text::{Fault, Sink, put_all};
+use rec_text::{Fault, Refusal, Sink, put_all};
 use std::alloc::Global;
 
 /// The history that a file and its journal stand for.
@@ -59,7 +59,7 @@ pub fn print_history<S: Sink>(
     file: &[u8],
     journal: &[u8],
     out: &mut S,
-) -> Result<Reply, Fault>
+) -> Result<Reply, Refusal>
     ensures written { PrintsAndCounts S.contents S.failure_count out.old out.new
         (PutsPrintout (IsShownText (IsHistory file.now journal.now))) result }
     ensures refusals { IfErr result IsRefusal }

@@ -2,6 +2,7 @@
 //! `docs/guarantees.md` says what is promised, and `specs/` states it, from `Home` to `Guarantee`.
 #![tactic(auto)]
 
+mod bad_edits;
 mod batches;
 mod decision;
 mod dry;
@@ -11,6 +12,7 @@ mod home;
 mod laws;
 mod memory;
 mod nowhere;
+mod obstacles;
 mod preview;
 mod printing;
 mod request;
@@ -18,9 +20,10 @@ mod reverting;
 mod runner;
 mod selecting;
 mod showing;
+mod telling;
 mod through;
 
-pub use batches::{batch_edits, names_for, tool_by};
+pub use batches::batch_edits;
 pub use dry::preview_through;
 pub use editing::make;
 pub use home::{Home, Which};
@@ -34,7 +37,7 @@ pub use rec_diff::DiffStyle;
 pub use rec_edit::{Action, Edited, NewRecord, Pair, RefusedEdit};
 pub use rec_journal::{Direction, Tool};
 pub use rec_select::InfoForm;
-pub use rec_text::{Bytes, Fault, Output, Rule, Sink, Violation, Violations};
+pub use rec_text::{Bytes, Fault, Output, Refusal, Rule, Sink, Violation, Violations};
 pub use request::{Ask, EditRequest, Form, Pick, Reply, Request};
 pub use runner::{run, run_all};
 pub use through::{Through, run_through};

@@ -11,7 +11,7 @@ ghost use Rattle.rec_tools.specs.proving.Courses.{LeadsFromFile, IsTextOfChange,
 use crate::decision::{Change, Decision, decide};
 use crate::request::{Reply, Request};
 use rec_diff::{DiffStyle, write_diff};
-use rec_text::{Fault, Sink};
+use rec_text::{Fault, Refusal, Sink};
 use std::alloc::Global;
 
 /// Prints what a change makes of a file, as a diff; of none nothing.
@@ -45,7 +45,7 @@ pub(crate) fn print_decision<S: Sink>(
     previewed: &Request,
     style: &DiffStyle,
     out: &mut S,
-) -> Result<Decision, Fault>
+) -> Result<Decision, Refusal>
     requires { IsSilent (asked_of previewed.now) }
     ensures written { PrintsAndCounts S.contents S.failure_count out.old out.new
         (PutsPrintout (IsPreviewed style.now file.now journal.now (asked_of previewed.now))) (replied result) }
@@ -65,7 +65,7 @@ pub fn print_preview<S: Sink>(
     previewed: &Request,
     style: &DiffStyle,
     out: &mut S,
-) -> Result<Reply, Fault>
+) -> Result<Reply, Refusal>
     requires { IsSilent (asked_of previewed.now) }
     ensures written { PrintsAndCounts S.contents S.failure_count out.old out.new
         (PutsPrintout (IsPreviewed style.now file.now journal.now (asked_of previewed.now))) result }

@@ -11,7 +11,7 @@ use crate::request::{Form, Pick, Reply};
 use crate::selecting::{Wanted, wanted_of};
 use rec_check::RecFile;
 use rec_select::{InfoForm, choose, write_info, write_records, write_report};
-use rec_text::{Bytes, Fault, Sink, Violation};
+use rec_text::{Bytes, Refusal, Sink, Violation};
 use std::alloc::Global;
 
 /// Prints the records of a file that are asked for.
@@ -21,7 +21,7 @@ fn print_wanted<S: Sink>(
     wanted: &Wanted,
     collapse: bool,
     out: &mut S,
-) -> Result<Reply, Fault>
+) -> Result<Reply, Refusal>
     ensures written { PrintsAndCounts S.contents S.failure_count out.old out.new
         (PutsPrintout (IsShownText (IsShowOf (described_text file.now) wanted.now.selection.kind
         (filter_of wanted.now.selection.by) wanted.now.shape collapse))) result }
@@ -40,7 +40,7 @@ pub fn show<S: Sink>(
     form: &Form,
     collapse: bool,
     out: &mut S,
-) -> Result<Reply, Fault>
+) -> Result<Reply, Refusal>
     ensures written { PrintsAndCounts S.contents S.failure_count out.old out.new
         (PutsPrintout (IsShownText (IsShow file.now pick.now form.now collapse))) result }
     ensures refusals { IfErr result IsRefusal }
@@ -67,7 +67,7 @@ pub fn inform<S: Sink>(
     record_type: &Option<Bytes>,
     form: InfoForm,
     out: &mut S,
-) -> Result<Reply, Fault>
+) -> Result<Reply, Refusal>
     ensures written { PrintsAndCounts S.contents S.failure_count out.old out.new
         (PutsPrintout (IsShownText (IsInfoOf file.now record_type.now form))) result }
     ensures refusals { IfErr result IsRefusal }
@@ -88,7 +88,7 @@ fn verdict_on(found: &[Violation]) -> Reply
 }
 
 /// Prints where a file breaks the rules of its record sets.
-pub fn check<S: Sink>(alloc: Global, file: &[u8], out: &mut S) -> Result<Reply, Fault>
+pub fn check<S: Sink>(alloc: Global, file: &[u8], out: &mut S) -> Result<Reply, Refusal>
     ensures written { PrintsAndCounts S.contents S.failure_count out.old out.new
         (PutsPrintout (IsReportText (AreViolationsOf file.now))) result }
     ensures refusals { IfErr result IsRefusal }

@@ -10,11 +10,15 @@ ghost use Rattle.rec_tools.specs.Reverting.{AreHunksBack, IsLeft, IsKept, IsReve
 ghost use Rattle.rec_tools.specs.proving.Editing.{HasSteps};
 ghost use Rattle.rec_tools.specs.proving.Reverting.{StandsBefore};
 
+use crate::obstacles::obstacle_of;
+use crate::telling::refused_on;
 use rec_check::RecFile;
 use rec_diff::revert;
 use rec_edit::{Edited, require_rules};
-use rec_journal::{EditStep, EditSteps, History, Patch, StandingEdit, Tool, standing_edit};
-use rec_text::Fault;
+use rec_journal::{
+    Direction, EditStep, EditSteps, History, Patch, StandingEdit, Tool, standing_edit,
+};
+use rec_text::{Fault, Obstacle, Reason, Refusal};
 use std::alloc::Global;
 
 /// The tool of the last step, or this one where there is none.
@@ -93,12 +97,43 @@ fn require_kept(alloc: Global, text: &[u8], force: bool) -> Result<(), Fault>
 {
     let left = match RecFile::read(alloc, text) {
         Ok(left) => left,
-        Err(fault) => return Err(unread(fault)),
+        Err(refusal) => return Err(unread(Fault::from(refusal))),
     };
     if force {
         return Ok(());
     }
     require_rules(alloc, &left)
+}
+
+/// The refusal of an edit that can't be taken back alone, with what keeps it from that.
+fn not_alone(
+    alloc: Global,
+    history: &History,
+    number: usize,
+    standing: &StandingEdit<'_>,
+    file: &[u8],
+    fault: Fault,
+) -> Refusal
+    requires { StandsBefore file.now standing.now }
+    ensures { result ≡ fault }
+{
+    let obstacle = match &fault {
+        Fault::ChangedLater => obstacle_of(alloc, history, number, standing, file),
+        _ => None,
+    };
+    let reason = obstacle.map(|obstacle| Reason::Obstacle(obstacle));
+    Refusal::from(fault).about(alloc, reason)
+}
+
+/// The refusal of a text that would be left.
+fn not_kept(alloc: Global, fault: Fault) -> Refusal
+    ensures { result ≡ fault }
+{
+    let reason = match &fault {
+        Fault::ChangedLater => Some(Reason::Obstacle(Obstacle::Unread)),
+        _ => None,
+    };
+    Refusal::from(fault).about(alloc, reason)
 }
 
 /// What is left of a file without the edit of a number, and the tool of the edit. Refused where the file has drifted, where no
@@ -111,14 +146,22 @@ pub fn reverted(
     journal: &[u8],
     number: usize,
     force: bool,
-) -> Result<(Tool, Edited), Fault>
+) -> Result<(Tool, Edited), Refusal>
     requires opened { IsOpening file.now journal.now (Ok history.now) }
     ensures found { UnlessMemory result (IsRevertOf number force history.now file.now) }
     ensures steps { IfOk result (HasSteps file.now) }
     ensures refusals { IfErr result IsRefusal }
 {
-    let standing = standing_edit(alloc, history, file, journal, number)?;
-    let (tool, edited) = left_without(alloc, &standing, file)?;
-    require_kept(alloc, edited.text.as_slice(), force)?;
-    Ok((tool, edited))
+    let standing = match standing_edit(alloc, history, file, journal, number) {
+        Ok(standing) => standing,
+        Err(fault) => return Err(refused_on(alloc, history, Some(Direction::Backward), fault)),
+    };
+    let (tool, edited) = match left_without(alloc, &standing, file) {
+        Ok(left) => left,
+        Err(fault) => return Err(not_alone(alloc, history, number, &standing, file, fault)),
+    };
+    match require_kept(alloc, edited.text.as_slice(), force) {
+        Ok(()) => Ok((tool, edited)),
+        Err(fault) => Err(not_kept(alloc, fault)),
+    }
 }

@@ -24,7 +24,7 @@ use crate::printing::{check, inform, show};
 use crate::request::{Reply, Request};
 use crate::showing::{print_edit, print_log};
 use rec_diff::DiffStyle;
-use rec_text::{Bytes, Fault, Sink};
+use rec_text::{Bytes, Fault, Refusal, Sink};
 use std::alloc::Global;
 
 /// Reads the file and the journal.
@@ -48,7 +48,7 @@ fn slice_of(file: &Option<Change>) -> Option<&[u8]>
 }
 
 /// Carries a decision out.
-fn carry_out<H: Home>(home: &mut H, decision: Decision) -> Result<Reply, Fault>
+fn carry_out<H: Home>(home: &mut H, decision: Decision) -> Result<Reply, Refusal>
     ensures calls { ByCalls H.goes home.old home.new (IsAnswered (outcome_of decision) result) }
     ensures refusals { IsOkUnless result Fault.StoreFailed }
 {
@@ -66,7 +66,7 @@ fn carry_out<H: Home>(home: &mut H, decision: Decision) -> Result<Reply, Fault>
 }
 
 /// Reads both contents, decides a request that prints nothing, and puts its plan in place.
-fn make_change<H: Home>(alloc: Global, home: &mut H, request: &Request) -> Result<Reply, Fault>
+fn make_change<H: Home>(alloc: Global, home: &mut H, request: &Request) -> Result<Reply, Refusal>
     requires { IsSilent (asked_of request.now) }
     ensures attempts { DoesSilently H.goes home.old home.new (asked_of request.now) result }
     ensures refusals { IfErr result IsRefusal }
@@ -77,7 +77,11 @@ fn make_change<H: Home>(alloc: Global, home: &mut H, request: &Request) -> Resul
 }
 
 /// Reads both contents, and prints the history.
-fn tell_history<H: Home, S: Sink>(alloc: Global, home: &mut H, out: &mut S) -> Result<Reply, Fault>
+fn tell_history<H: Home, S: Sink>(
+    alloc: Global,
+    home: &mut H,
+    out: &mut S,
+) -> Result<Reply, Refusal>
     ensures attempts { (calls : List Call) × (p : Printed) × WentOut S.contents S.failure_count out.old out.new p
         × Attempts H.goes home.old home.new listing result calls p }
     ensures counted { S.failure_count out.old ≤ S.failure_count out.new }
@@ -94,7 +98,7 @@ fn tell_edit<H: Home, S: Sink>(
     out: &mut S,
     number: Option<usize>,
     style: &DiffStyle,
-) -> Result<Reply, Fault>
+) -> Result<Reply, Refusal>
     ensures attempts { (calls : List Call) × (p : Printed) × WentOut S.contents S.failure_count out.old out.new p
         × Attempts H.goes home.old home.new (showing number style.now) result calls p }
     ensures counted { S.failure_count out.old ≤ S.failure_count out.new }
@@ -117,7 +121,7 @@ fn tell_log<H: Home, S: Sink>(
     home: &mut H,
     out: &mut S,
     style: &DiffStyle,
-) -> Result<Reply, Fault>
+) -> Result<Reply, Refusal>
     ensures attempts { (calls : List Call) × (p : Printed) × WentOut S.contents S.failure_count out.old out.new p
         × Attempts H.goes home.old home.new (listing_changes style.now) result calls p }
     ensures counted { S.failure_count out.old ≤ S.failure_count out.new }
@@ -134,7 +138,7 @@ fn tell_preview<H: Home, S: Sink>(
     out: &mut S,
     previewed: &Request,
     style: &DiffStyle,
-) -> Result<Reply, Fault>
+) -> Result<Reply, Refusal>
     requires { IsSilent (asked_of previewed.now) }
     ensures attempts { (calls : List Call) × (p : Printed) × WentOut S.contents S.failure_count out.old out.new p
         × Attempts H.goes home.old home.new (previewing style.now (asked_of previewed.now)) result calls p }
@@ -158,7 +162,7 @@ fn look<H: Home, S: Sink>(
     home: &mut H,
     out: &mut S,
     request: &Request,
-) -> Result<Reply, Fault>
+) -> Result<Reply, Refusal>
     requires { IsLook request.now }
     ensures attempts { (calls : List Call) × (p : Printed) × WentOut S.contents S.failure_count out.old out.new p
         × Attempts H.goes home.old home.new (asked_of request.now) result calls p }
@@ -196,7 +200,7 @@ fn look<H: Home, S: Sink>(
 }
 
 /// The reply to a request that writes nothing, of which nothing is printed.
-fn reply_alone<H: Home>(alloc: Global, home: &mut H, request: &Request) -> Result<Reply, Fault>
+fn reply_alone<H: Home>(alloc: Global, home: &mut H, request: &Request) -> Result<Reply, Refusal>
     requires { WritesNothing (asked_of request.now) }
     ensures attempts { (style : StyleOf)
         → DoesSilently H.goes home.old home.new (previewing style (asked_of request.now)) result }
@@ -232,7 +236,7 @@ fn preview<H: Home, S: Sink>(
     out: &mut S,
     previewed: &Request,
     style: &DiffStyle,
-) -> Result<Reply, Fault>
+) -> Result<Reply, Refusal>
     ensures attempts { (calls : List Call) × (p : Printed) × WentOut S.contents S.failure_count out.old out.new p
         × Attempts H.goes home.old home.new (previewing style.now (asked_of previewed.now)) result calls p }
     ensures counted { S.failure_count out.old ≤ S.failure_count out.new }
@@ -250,7 +254,7 @@ fn attempt<H: Home, S: Sink>(
     home: &mut H,
     out: &mut S,
     request: &Request,
-) -> Result<Reply, Fault>
+) -> Result<Reply, Refusal>
     ensures attempts { (calls : List Call) × (p : Printed) × WentOut S.contents S.failure_count out.old out.new p
         × Attempts H.goes home.old home.new (asked_of request.now) result calls p }
     ensures counted { S.failure_count out.old ≤ S.failure_count out.new }
@@ -280,7 +284,7 @@ pub fn run<H: Home, S: Sink>(
     home: &mut H,
     out: &mut S,
     request: &Request,
-) -> Result<Reply, Fault>
+) -> Result<Reply, Refusal>
     // The calls of the home, one by one; what went out; and, for whatever contents the reads tell of, that both and the
     // answer are what the request comes to there.
     ensures attempts { (calls : List Call) × (p : Printed) × WentOut S.contents S.failure_count out.old out.new p
@@ -318,7 +322,7 @@ pub fn run_all<H: Home, S: Sink>(
     home: &mut H,
     out: &mut S,
     requests: &[Request],
-) -> Result<Vec<Result<Reply, Fault>>, Fault>
+) -> Result<Vec<Result<Reply, Refusal>>, Fault>
     // One answer for each request, whatever fails and whoever writes between two requests, by calls of its own.
     ensures attempts { IfOk result (λ answers.
         (calls : List Call) × (p : Printed) × WentOut S.contents S.failure_count out.old out.new p

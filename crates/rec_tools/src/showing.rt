@@ -10,9 +10,10 @@ ghost use Rattle.rec_tools.specs.proving.Logs.{HasSteps, HaveSteps, IsEditDiff, 
 
 use crate::history::{history_of, write_step};
 use crate::request::Reply;
+use crate::telling::refused_on;
 use rec_diff::{DiffStyle, write_diff};
 use rec_journal::{Direction, EditTexts, EditWalk, History, edit_texts};
-use rec_text::{Fault, Sink, put_all};
+use rec_text::{Fault, Refusal, Sink, put_all};
 use std::alloc::Global;
 
 /// Prints an edit as a diff.
@@ -40,13 +41,16 @@ pub fn print_edit<S: Sink>(
     number: Option<usize>,
     style: &DiffStyle,
     out: &mut S,
-) -> Result<Reply, Fault>
+) -> Result<Reply, Refusal>
     ensures written { PrintsAndCounts S.contents S.failure_count out.old out.new
         (PutsPrintout (IsShownText (IsShownEdit number style.now file.now journal.now))) result }
     ensures refusals { IfErr result IsRefusal }
 {
     let history = history_of(alloc, file, journal)?;
-    let made = edit_texts(alloc, &history, file, journal, number)?;
+    let made = match edit_texts(alloc, &history, file, journal, number) {
+        Ok(made) => made,
+        Err(fault) => return Err(refused_on(alloc, &history, None, fault)),
+    };
     write_edit(alloc, &made, style, out)?;
     Ok(Reply::Shown)
 }
@@ -87,7 +91,7 @@ fn write_lines<S: Sink>(
 }
 
 /// Prints that the file was changed outside.
-fn print_drifted<S: Sink>(out: &mut S) -> Result<Reply, Fault>
+fn print_drifted<S: Sink>(out: &mut S) -> Result<Reply, Refusal>
     ensures printed { PrintsAndCounts S.contents S.failure_count out.old out.new
         (PutsPrintout (IsShownText (λ answer. answer ≡ Ok (codes "drifted\n")))) result }
     ensures refusals { IsOkUnless result Fault.StoreFailed }
@@ -104,14 +108,17 @@ fn print_edits<S: Sink>(
     journal: &[u8],
     style: &DiffStyle,
     out: &mut S,
-) -> Result<Reply, Fault>
+) -> Result<Reply, Refusal>
     requires opened { IsOpening file.now journal.now (Ok history.now) }
     requires settled { history.now.drifted ≡ false }
     ensures written { PrintsAndCounts S.contents S.failure_count out.old out.new
         (PutsPrintout (IsShownText (IsLogOf style.now file.now history.now))) result }
     ensures refusals { IfErr result IsRefusal }
 {
-    let walk = EditWalk::begin(alloc, history, file, journal)?;
+    let walk = match EditWalk::begin(alloc, history, file, journal) {
+        Ok(walk) => walk,
+        Err(fault) => return Err(refused_on(alloc, history, None, fault)),
+    };
     write_lines(alloc, walk, style, out)?;
     Ok(Reply::Shown)
 }
@@ -123,7 +130,7 @@ pub fn print_log<S: Sink>(
     journal: &[u8],
     style: &DiffStyle,
     out: &mut S,
-) -> Result<Reply, Fault>
+) -> Result<Reply, Refusal>
     ensures written { PrintsAndCounts S.contents S.failure_count out.old out.new
         (PutsPrintout (IsShownText (IsWholeLog style.now file.now journal.now))) result }
     ensures refusals { IfErr result IsRefusal }

@@ -14,7 +14,7 @@ use crate::home::Home;
 use crate::request::{Reply, Request};
 use crate::runner::run;
 use rec_journal::Direction;
-use rec_text::{Fault, Sink};
+use rec_text::{Refusal, Sink};
 use std::alloc::Global;
 
 /// How moves through the history ended.
@@ -25,7 +25,7 @@ pub struct Through {
     /// That of the last.
     pub last: Option<usize>,
     /// The last answer: that of the last move, or the refusal of one more.
-    pub answer: Result<Reply, Fault>,
+    pub answer: Result<Reply, Refusal>,
 }
 
 /// The request for a move by the nearest edit that way, where the edit of this number lies that way too.
@@ -45,7 +45,7 @@ fn move_once<H: Home, S: Sink>(
     out: &mut S,
     direction: Direction,
     number: usize,
-) -> Result<Reply, Fault>
+) -> Result<Reply, Refusal>
     ensures attempts { (calls : List Call) × (p : Printed) × WentOut S.contents S.failure_count out.old out.new p
         × Attempts H.goes home.old home.new (asked_of (move_through direction number)) result calls p }
     ensures silent { out.new ≡ out.old }
@@ -55,7 +55,7 @@ fn move_once<H: Home, S: Sink>(
 }
 
 /// The number of the edit that was taken back or made again, if one was.
-pub(crate) fn moved_by(answer: &Result<Reply, Fault>) -> Option<usize>
+pub(crate) fn moved_by(answer: &Result<Reply, Refusal>) -> Option<usize>
     ensures moved { result ≡ moved_by answer.now }
     ensures bounded { IfSome result (λ n. n < 2 ^ 64) }
 {

@@ -9,12 +9,12 @@ ghost use Rattle.recu.specs.Answers.{ArePathsOf, IsCarriedOut, IsFoundFor, IsHom
 
 use crate::answering::answer_by;
 use crate::saying::{say_empty, say_more, say_waiting};
-use rec_command::{CommandLine, JournalPath, Order, Refusal, batch_request, finish, parse};
+use rec_command::{CommandLine, JournalPath, Order, batch_request, finish, parse};
 use rec_disk::Disk;
 use rec_files::{
     DefaultPaths, DiskHome, StandardOutput, access_of, batch_text, default_paths, explain_output,
 };
-use rec_tools::{Fault, Home, Reply, Request, Sink};
+use rec_tools::{Fault, Home, Refusal, Reply, Request, Sink};
 use std::io;
 use std::io::Write;
 use std::rt::Runtime;
@@ -75,7 +75,7 @@ fn answer<D: Disk + Drop, W: Write + Drop>(
     out: W,
     words: &[String],
 ) -> (
-    Result<Option<Reply>, Fault>,
+    Result<Option<Reply>, Refusal>,
     D,
     Option<StandardOutput<W>>,
     bool,
@@ -110,7 +110,7 @@ fn has_lost_reader<W: Write + Drop>(printed: &Option<StandardOutput<W>>) -> bool
 }
 
 /// An answer with a reply, or the refusal.
-fn with_reply(answer: Result<Reply, Fault>) -> Result<Option<Reply>, Fault>
+fn with_reply(answer: Result<Reply, Refusal>) -> Result<Option<Reply>, Refusal>
     ensures reply { IfOk answer (λ reply. result ≡ Ok (Some reply)) }
     ensures fault { IfErr answer (λ fault. result ≡ Err fault) }
 {
@@ -121,26 +121,26 @@ fn with_reply(answer: Result<Reply, Fault>) -> Result<Option<Reply>, Fault>
 /// whether the help has no reader any more.
 fn explain_words(
     rt: &HostRuntime,
-    refusal: &Refusal,
+    refusal: &rec_command::Refusal,
     words: &[String],
-) -> (Result<Option<Reply>, Fault>, bool)
+) -> (Result<Option<Reply>, Refusal>, bool)
     ensures answer { IsAnswerToRefused refusal.now result.0 }
     ensures lost { IsTrue result.1 → result.0 ≡ Err Fault.StoreFailed }
 {
     let explained = refusal.explain(rt, words);
     if !refusal.asks_for_help() {
-        return (Err(refusal.fault()), false);
+        return (Err(Refusal::from(refusal.fault())), false);
     }
     match explained {
         Ok(()) => (Ok(None), false),
         Err(error) if error.kind() == io::ErrorKind::OutOfMemory => (
-            Err(Fault::OutOfMemory),
+            Err(Refusal::from(Fault::OutOfMemory)),
             false,
         ),
         Err(error) => {
             let _ = explain_output(rt, error);
             (
-                Err(Fault::StoreFailed),
+                Err(Refusal::from(Fault::StoreFailed)),
                 error.kind() == io::ErrorKind::BrokenPipe,
             )
         }
@@ -153,14 +153,14 @@ fn carry_out<D: Disk + Drop, W: Write + Drop>(
     mut disk: D,
     out: W,
     line: CommandLine,
-) -> (Result<Reply, Fault>, D, Option<StandardOutput<W>>)
+) -> (Result<Reply, Refusal>, D, Option<StandardOutput<W>>)
     ensures answer { IsDone D.place D.leads D.folder D.syncs D.story D.works
         ⟦<DiskHome<'static, HostRuntime, D> as Home>⟧.goes D.link disk result.1 (W.contents out)
         (option_map (out_of W.contents) result.2) line result.0 }
 {
     match task_of(rt, &mut disk, line) {
         Ok(task) => do_task(rt, disk, out, task),
-        Err(fault) => (Err(fault), disk, None),
+        Err(fault) => (Err(Refusal::from(fault)), disk, None),
     }
 }
 
@@ -170,7 +170,7 @@ fn do_task<D: Disk + Drop, W: Write + Drop>(
     disk: D,
     out: W,
     task: Task,
-) -> (Result<Reply, Fault>, D, Option<StandardOutput<W>>)
+) -> (Result<Reply, Refusal>, D, Option<StandardOutput<W>>)
     ensures answer { IsCarriedOut D.place D.leads D.folder D.syncs D.story D.works
         ⟦<DiskHome<'static, HostRuntime, D> as Home>⟧.goes disk result.1 (W.contents out)
         (option_map (out_of W.contents) result.2) (option_map string_bytes task.paths.file)

@@ -8,7 +8,7 @@ mod saying;
 use commanding::status;
 use rec_command::{finish, words};
 use rec_disk::HostDisk;
-use rec_tools::Output;
+use rec_tools::{Output, Refusal};
 use std::process::ExitCode;
 
 fn main(rt: HostRuntime) -> ExitCode {
@@ -22,6 +22,6 @@ fn main(rt: HostRuntime) -> ExitCode {
             let (status, _, _) = status(&rt, disk, rt.stdout(), &mut err, words.as_slice());
             status
         }
-        Err(fault) => finish(&Err(fault), &mut err),
+        Err(fault) => finish(&Err(Refusal::from(fault)), &mut err),
     })
 }

@@ -9,7 +9,7 @@ use rec_explain::{
 };
 use rec_files::{Access, DiskHome, first_ending};
 use rec_select::write_report;
-use rec_tools::{Bytes, Direction, Fault, Home, Output, Reply, Request, Through, Which};
+use rec_tools::{Bytes, Direction, Fault, Home, Output, Refusal, Reply, Request, Through, Which};
 use std::io::{IsTerminal, Write};
 use std::rt::Runtime;
 
@@ -56,7 +56,7 @@ pub fn say_more<D: Disk + Drop>(
     home: &DiskHome<'_, HostRuntime, D>,
     request: &Request,
     batch: &Option<String>,
-    answer: &Result<Reply, Fault>,
+    answer: &Result<Reply, Refusal>,
 )
     requires shut { IsShut home.now.both }
 {
@@ -68,12 +68,12 @@ pub fn say_more<D: Disk + Drop>(
             explain_reply(rt, home, request, &names, reply);
             say_done(rt, home, request, &names, reply);
         }
-        Err(fault) => {
+        Err(refusal) => {
+            let fault = refusal.fault();
             let text = text_for(rt, home, fault);
-            let history = history_for(rt, home, fault);
             let events = events_for(rt, home, request, fault);
-            let about = about(home, &names, &text, &history, &events);
-            say(rt, &explain(rt.alloc(), &about, request, fault));
+            let about = about(home, &names, &text, &None, &events);
+            say(rt, &explain(rt.alloc(), &about, request, refusal));
         }
     }
 }
@@ -223,14 +223,14 @@ fn done_events<D: Disk + Drop>(
     }
 }
 
-/// Prints the report for which an edit was refused, and gives the text of the file, where a refusal can be about it.
+/// Prints the report for which an edit was refused, and gives the text of the file, where it takes that to say more of a refusal:
+/// of records that break rules or would be deleted, of record types, of counters, and of edits that were undone.
 fn text_for<D: Disk + Drop>(
     rt: &HostRuntime,
     home: &DiskHome<'_, HostRuntime, D>,
     fault: &Fault,
 ) -> Option<Vec<u8>> {
     match fault {
-        Fault::OutOfMemory | Fault::StoreFailed => None,
         Fault::Integrity(violations) => {
             let mut err = Output {
                 writer: rt.stderr(),
@@ -239,7 +239,12 @@ fn text_for<D: Disk + Drop>(
             let _ = write_report(violations.as_slice(), &mut err);
             text_again(rt, home)
         }
-        _ => text_again(rt, home),
+        Fault::NoSelection
+        | Fault::TypeNeeded
+        | Fault::NoSuchType
+        | Fault::AutoImpossible
+        | Fault::NothingToRedo => text_again(rt, home),
+        _ => None,
     }
 }
 
@@ -273,18 +278,6 @@ fn text_again<D: Disk + Drop>(
     home_again(rt, home)?.text_again(rt.alloc())
 }
 
-/// The history, as `history` prints it, where a refusal is that an edit isn't one of it, or that texts of edits don't fit.
-fn history_for<D: Disk + Drop>(
-    rt: &HostRuntime,
-    home: &DiskHome<'_, HostRuntime, D>,
-    fault: &Fault,
-) -> Option<Vec<u8>> {
-    match fault {
-        Fault::NoSuchEdit | Fault::Drifted => history_again(rt, home),
-        _ => None,
-    }
-}
-
 /// The history as it is now, as `history` prints it.
 fn history_again<D: Disk + Drop>(
     rt: &HostRuntime,
@@ -308,7 +301,7 @@ fn events_for<D: Disk + Drop>(
 ) -> Option<Bytes> {
     let is_needed = match fault {
         Fault::NothingToRedo => true,
-        Fault::ChangedLater | Fault::Integrity(_) => is_revert(request),
+        Fault::Integrity(_) => is_revert(request),
         _ => false,
     };
     if is_needed {

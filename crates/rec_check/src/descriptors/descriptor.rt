@@ -13,17 +13,23 @@ ghost use Rattle.rec_check.specs.proving.Reading.{Answers, AddsDefinition, AddsT
 ghost use Rattle.rec_check.specs.Types.{DefinitionMayBeRefused, TypeMayBeRefused};
 ghost use Rattle.rec_check.specs.Words.{words};
 
-use crate::descriptors::descriptor_fault::{DescriptorFault, FieldResult, fault_at_line};
+use crate::descriptors::descriptor_fault::{
+    DescriptorFault, FieldRefusal, FieldResult, bad, bad_pattern, bad_word, no_name,
+    refusal_at_line, second, unsupported,
+};
+use crate::descriptors::field_place::FieldPlace;
 use crate::descriptors::patterns::Patterns;
-use crate::descriptors::special::{Bound, Special, bound_in, special_of};
+use crate::descriptors::special::{Bound, Special, bound_in, number_in, special_of};
 use crate::descriptors::type_names::TypeNames;
 use crate::descriptors::typing::{definition_in, typing_in};
-use crate::descriptors::words::split_word;
+use crate::descriptors::words::{split_word, strip};
 use crate::field_types::definition::Definition;
 use crate::field_types::field_type::Typing;
 use crate::rules::Rules;
 use rec_sex::Expr;
-use rec_text::{Bytes, Database, Element, Fault, OrMemory, is_field_name, is_plain_name};
+use rec_text::{
+    Broken, Bytes, Database, Element, Fault, OrMemory, Refusal, is_field_name, is_plain_name,
+};
 use std::alloc::Global;
 
 /// What the fields of a descriptor say.
@@ -97,16 +103,34 @@ fn add_type(
         (record_type.new ≡ Some (first_word (words value.now))) ⊥ result }
 {
     let Some((word, source)) = split_word(value) else {
-        return Err(OrMemory::Refused(DescriptorFault::Bad));
+        return Err(bad(Broken::RecNeedsType));
     };
-    if record_type.is_some() || !is_plain_name(word) || types.contains(word) {
-        return Err(OrMemory::Refused(DescriptorFault::Bad));
+    if record_type.is_some() {
+        return Err(second(record_type));
+    }
+    if !is_plain_name(word) {
+        return Err(bad_word(alloc, Broken::TypeName, word));
+    }
+    if types.contains(word) {
+        return Err(bad_word(alloc, Broken::TypeTaken, word));
     }
     if split_word(source).is_some() {
-        return Err(OrMemory::Refused(DescriptorFault::Unsupported));
+        return Err(unsupported());
     }
     *record_type = Some(Bytes::copy_of(alloc, word)?);
     Ok(())
+}
+
+/// That a word is no key.
+fn no_key(alloc: Global, word: &[u8]) -> OrMemory<FieldRefusal>
+    requires { may_name_a_field word.now ≡ false }
+    ensures { result ≡ OrMemory.Refused DescriptorFault.Bad }
+{
+    if word.contains(&b',') {
+        bad(Broken::KeyNamesOne)
+    } else {
+        bad_word(alloc, Broken::FieldName, word)
+    }
 }
 
 /// Takes the one name of a `%key` field.
@@ -115,10 +139,16 @@ fn add_key(alloc: Global, key: &mut Option<Bytes>, value: &[u8]) -> FieldResult<
         (key.new ≡ slice_get (words value.now) 0) ⊥ result }
 {
     let Some((name, following)) = split_word(value) else {
-        return Err(OrMemory::Refused(DescriptorFault::Bad));
+        return Err(bad(Broken::KeyNeedsName));
     };
-    if key.is_some() || !is_field_name(name) || split_word(following).is_some() {
-        return Err(OrMemory::Refused(DescriptorFault::Bad));
+    if key.is_some() {
+        return Err(second(key));
+    }
+    if !is_field_name(name) {
+        return Err(no_key(alloc, name));
+    }
+    if split_word(following).is_some() {
+        return Err(bad(Broken::KeyNamesOne));
     }
     *key = Some(Bytes::copy_of(alloc, name)?);
     Ok(())
@@ -132,7 +162,7 @@ fn add_names(alloc: Global, names: &mut Vec<Bytes>, value: &[u8]) -> FieldResult
     let mut rest = value;
     while let Some((name, following)) = split_word(rest) {
         if !is_field_name(name) {
-            return Err(OrMemory::Refused(DescriptorFault::Bad));
+            return Err(no_name(alloc, name));
         }
         names.push(Bytes::copy_of(alloc, name)?)?;
         rest = following;
@@ -186,27 +216,38 @@ fn add_definition(
 }
 
 /// Takes what a `%size` field says.
-fn add_bound(size: &mut Option<Bound>, value: &[u8]) -> FieldResult<()>
+fn add_bound(alloc: Global, size: &mut Option<Bound>, value: &[u8]) -> FieldResult<()>
     ensures { Answers (special_flaw Special.Size (is_some size.old) [] value.now)
         (size.new ≡ bound_in value.now) ⊥ result }
 {
-    let None = size else {
-        return Err(OrMemory::Refused(DescriptorFault::Bad));
-    };
+    if size.is_some() {
+        return Err(second(size));
+    }
     *size = bound_in(value);
     match size {
         Some(_) => Ok(()),
-        None => Err(OrMemory::Refused(DescriptorFault::Bad)),
+        None => Err(bad_word(alloc, Broken::Size, number_in(value))),
     }
 }
 
-/// What is told of a constraint that is no expression.
-fn refusal_of(fault: Fault) -> OrMemory<DescriptorFault>
+/// That a value is no expression, which has its fault here.
+fn no_expression(alloc: Global, value: &[u8], at: usize) -> OrMemory<FieldRefusal>
+    ensures { result ≡ OrMemory.Refused DescriptorFault.Bad }
+{
+    if strip(value).is_empty() {
+        bad(Broken::ConstraintEmpty)
+    } else {
+        bad_word(alloc, Broken::Expression { at }, value)
+    }
+}
+
+/// What is told of a constraint that is refused so.
+fn refusal_of(alloc: Global, value: &[u8], fault: Fault) -> OrMemory<FieldRefusal>
     ensures { result ≡ refusal_for fault }
 {
     match fault {
-        Fault::BadExpression { .. } => OrMemory::Refused(DescriptorFault::Bad),
-        Fault::BadPattern => OrMemory::Refused(DescriptorFault::Pattern),
+        Fault::BadExpression { at } => no_expression(alloc, value, at),
+        Fault::BadPattern => bad_pattern(),
         _ => OrMemory::OutOfMemory,
     }
 }
@@ -222,7 +263,7 @@ fn add_constraint(alloc: Global, constraints: &mut Vec<Expr>, value: &[u8]) -> F
             constraints.push(constraint)?;
             Ok(())
         }
-        Err(fault) => Err(refusal_of(fault)),
+        Err(fault) => Err(refusal_of(alloc, value, fault)),
     }
 }
 
@@ -267,9 +308,9 @@ impl Descriptor {
             Special::Auto => add_names(alloc, &mut self.rules.automatic, value),
             Special::Typed => add_typing(alloc, patterns, &mut self.rules.types, value),
             Special::Typedef => add_definition(alloc, patterns, &mut self.rules.definitions, value),
-            Special::Size => add_bound(&mut self.rules.size, value),
+            Special::Size => add_bound(alloc, &mut self.rules.size, value),
             Special::Constraint => add_constraint(alloc, &mut self.rules.constraints, value),
-            Special::Confidential => Err(OrMemory::Refused(DescriptorFault::Unsupported)),
+            Special::Confidential => Err(unsupported()),
         }
     }
 
@@ -293,7 +334,7 @@ impl Descriptor {
         database: &Database,
         fields: &[Element],
         types: &TypeNames,
-    ) -> Result<Descriptor, Fault>
+    ) -> Result<Descriptor, Refusal>
         requires { All (λ field. field.at ≤ length (text_of database.now)) fields.now }
         ensures found { IfOk result (λ descriptor. IsRead (text_of database.now) types.now fields.now
             (Ok (said descriptor))) }
@@ -304,7 +345,15 @@ impl Descriptor {
         for field in fields {
             match descriptor.add_field(alloc, types, field) {
                 Ok(()) => {}
-                Err(refusal) => return Err(fault_at_line(refusal, database.line_of(field.at))),
+                Err(refusal) => {
+                    let place = FieldPlace {
+                        database,
+                        own: fields,
+                        field,
+                    };
+                    let line = database.line_of(field.at);
+                    return Err(refusal_at_line(alloc, refusal, &place, line));
+                }
             }
         }
         Ok(descriptor)

@@ -4,7 +4,7 @@ use crate::descriptors::descriptor::{Descriptor, is_descriptor};
 use crate::descriptors::type_names::TypeNames;
 use crate::rules::Rules;
 use crate::set::{Set_, add_record};
-use rec_text::{Database, Element, Fault};
+use rec_text::{Database, Element, Refusal};
 use std::alloc::{AllocError, Global};
 
 /// The sets of the records so far, with their rules.
@@ -51,7 +51,7 @@ impl Draft {
         database: &Database,
         index: usize,
         fields: &[Element],
-    ) -> Result<(), Fault>
+    ) -> Result<(), Refusal>
         requires places { All (λ field. field.at ≤ length (text_of database.now)) fields.now }
         requires index { index < 2 ^ 64 - 1 }
         requires typed { HaveTypes self.old.sets.items self.old.types }

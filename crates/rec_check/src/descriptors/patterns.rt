@@ -1,7 +1,7 @@
 //! The patterns of a descriptor that are built so far.
 ghost use Rattle.rec_check.specs.proving.Kinds.{IsPatternFor};
 
-use crate::descriptors::descriptor_fault::{DescriptorFault, FieldResult};
+use crate::descriptors::descriptor_fault::{FieldResult, bad_pattern};
 use rec_sex::pattern_of;
 use rec_text::{Fault, OrMemory};
 use regex::Regex;
@@ -34,7 +34,7 @@ fn built(alloc: Global, text: &str) -> FieldResult<Regex>
 {
     match pattern_of(alloc, text) {
         Ok(pattern) => Ok(pattern),
-        Err(Fault::BadPattern) => Err(OrMemory::Refused(DescriptorFault::Pattern)),
+        Err(Fault::BadPattern) => Err(bad_pattern()),
         Err(_) => Err(OrMemory::OutOfMemory),
     }
 }

@@ -101,6 +101,12 @@ fn split_comparison(value: &[u8]) -> (Comparison, &[u8])
     }
 }
 
+/// What stands after the operator of a `%size` field, if it has one.
+pub(crate) fn number_in(value: &[u8]) -> &[u8] {
+    let (_, number) = split_comparison(value);
+    number
+}
+
 /// What the value of a `%size` field says.
 pub(crate) fn bound_in(value: &[u8]) -> Option<Bound>
     ensures { result ≡ bound_in value.now }

@@ -7,13 +7,15 @@ ghost use Rattle.rec_check.specs.proving.Kinds.{IsKindIn};
 ghost use Rattle.rec_check.specs.Stored.{definition_stored, typing_stored};
 ghost use Rattle.rec_check.specs.Types.{IsDefinition, IsTyping, DefinitionMayBeRefused, TypeMayBeRefused, definition_of, typing_of};
 
-use crate::descriptors::descriptor_fault::{DescriptorFault, FieldResult};
+use crate::descriptors::descriptor_fault::{
+    DescriptorFault, FieldRefusal, FieldResult, bad, bad_word,
+};
 use crate::descriptors::patterns::Patterns;
 use crate::descriptors::words::split_word;
 use crate::field_types::definition::Definition;
 use crate::field_types::field_type::{FieldType, Typing};
 use crate::field_types::kind::type_of_kind;
-use rec_text::{Bytes, OrMemory, is_field_name, is_plain_name};
+use rec_text::{Broken, Bytes, OrMemory, is_field_name, is_plain_name};
 use std::alloc::{AllocError, Global};
 
 /// Copies of what stands between commas.
@@ -33,12 +35,32 @@ fn are_names(names: &[Bytes]) -> bool
     names.iter().all(|name| is_field_name(name.as_slice()))
 }
 
-/// The kind that comes first, and its type, with the words of it that stand after.
-fn kind_in(alloc: Global, patterns: &mut Patterns, text: &[u8]) -> FieldResult<(Bytes, FieldType)>
+/// That not all names are those of fields which commas join to this word.
+fn bad_names(alloc: Global, joined: &[u8], names: &[Bytes]) -> OrMemory<FieldRefusal>
+    ensures { result ≡ OrMemory.Refused DescriptorFault.Bad }
+{
+    for name in names {
+        if name.as_slice().is_empty() {
+            return bad_word(alloc, Broken::NameMissing, joined);
+        }
+        if !is_field_name(name.as_slice()) {
+            return bad_word(alloc, Broken::FieldName, name.as_slice());
+        }
+    }
+    bad(Broken::TypeNeeds)
+}
+
+/// The kind that comes first, and its type, with the words of it that stand after. Where there is none, this rule is broken.
+fn kind_in(
+    alloc: Global,
+    patterns: &mut Patterns,
+    text: &[u8],
+    needed: Broken,
+) -> FieldResult<(Bytes, FieldType)>
     ensures { IsKindIn text.now result }
 {
     let Some((kind, following)) = split_word(text) else {
-        return Err(OrMemory::Refused(DescriptorFault::Bad));
+        return Err(bad(needed));
     };
     let value_type = type_of_kind(alloc, patterns, kind, following)?;
     Ok((Bytes::copy_of(alloc, kind)?, value_type))
@@ -53,13 +75,13 @@ pub(crate) fn typing_in(alloc: Global, patterns: &mut Patterns, value: &[u8]) ->
         ⊎ ((refusal ≡ OrMemory.Refused DescriptorFault.Pattern) ⊎ (refusal ≡ OrMemory.OutOfMemory))) }
 {
     let Some((joined, following)) = split_word(value) else {
-        return Err(OrMemory::Refused(DescriptorFault::Bad));
+        return Err(bad(Broken::TypeNeeds));
     };
     let names = split_names(alloc, joined)?;
     if !are_names(&names) {
-        return Err(OrMemory::Refused(DescriptorFault::Bad));
+        return Err(bad_names(alloc, joined, &names));
     }
-    let (kind, value_type) = kind_in(alloc, patterns, following)?;
+    let (kind, value_type) = kind_in(alloc, patterns, following, Broken::TypeNeeds)?;
     Ok(Typing {
         names,
         kind,
@@ -80,12 +102,12 @@ pub(crate) fn definition_in(
         ⊎ ((refusal ≡ OrMemory.Refused DescriptorFault.Pattern) ⊎ (refusal ≡ OrMemory.OutOfMemory))) }
 {
     let Some((name, following)) = split_word(value) else {
-        return Err(OrMemory::Refused(DescriptorFault::Bad));
+        return Err(bad(Broken::TypedefNeeds));
     };
     if !is_plain_name(name) {
-        return Err(OrMemory::Refused(DescriptorFault::Bad));
+        return Err(bad_word(alloc, Broken::TypeName, name));
     }
-    let (kind, value_type) = kind_in(alloc, patterns, following)?;
+    let (kind, value_type) = kind_in(alloc, patterns, following, Broken::TypedefNeeds)?;
     let name = Bytes::copy_of(alloc, name)?;
     Ok(Definition {
         name,

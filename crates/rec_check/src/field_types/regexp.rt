@@ -3,11 +3,11 @@ ghost use Rattle.std.specs.Prelude.{◌≡◌, Some, None, option_map};
 ghost use Rattle.rec_check.specs.proving.Kinds.{IsTypeOf};
 ghost use Rattle.rec_check.specs.Types.{pattern_in, regexp_of};
 
-use crate::descriptors::descriptor_fault::{DescriptorFault, FieldResult};
+use crate::descriptors::descriptor_fault::{FieldResult, bad};
 use crate::descriptors::patterns::Patterns;
 use crate::descriptors::words::strip;
 use crate::field_types::field_type::FieldType;
-use rec_text::OrMemory;
+use rec_text::Broken;
 use std::alloc::Global;
 
 /// What stands between the first byte and the last one, if these are equal.
@@ -28,10 +28,10 @@ pub(crate) fn regexp_type(
     ensures { IsTypeOf (regexp_of text.now) result }
 {
     let Some(pattern) = pattern_in(strip(text)) else {
-        return Err(OrMemory::Refused(DescriptorFault::Bad));
+        return Err(bad(Broken::Delimiters));
     };
     let Ok(pattern) = std::str::from_utf8(pattern) else {
-        return Err(OrMemory::Refused(DescriptorFault::Bad));
+        return Err(bad(Broken::NoUtf8));
     };
     let pattern = patterns.pattern_of(alloc, pattern)?;
     Ok(FieldType::Matching(pattern))

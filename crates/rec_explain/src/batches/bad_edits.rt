@@ -1,133 +1,72 @@
 //! Records of a batch that are no edit, as `docs/editing.md` says what an edit has.
 use crate::explanation::Explanation;
 use crate::lines::bad_lines::{explain_bad_line, explain_open_line};
-use crate::lines::places::{elements_of, index_at, record_with, value_of};
-use crate::lines::shown::{line_in, show_line};
+use crate::lines::shown::{show_line, without_cr};
 use itoa::Buffer;
-use rec_text::Space::BlankOrNewline;
-use rec_text::{Database, Element, Fault, OrMemory, count_of, read};
-use rec_tools::{Tool, names_for, tool_by};
+use rec_text::{BadEdit, Needed, Reason, Wanted, first_line, from_line, read};
+use rec_tools::Fault;
 use std::alloc::Global;
 use std::str;
-
-const TOOL: &str = "an edit needs a Tool: recins, recdel, recset or recfix";
-
-const CAPITAL: &str = "an edit needs a Tool, with a capital: recins, recdel, recset or recfix";
-
-const TOOLS: &str = "recins, recdel, recset or recfix";
-
-const ACTION: &str = "recset needs one of Set, Add, SetAdd, Rename, Delete and Comment";
-
-/// The names that may stand more than once.
-const REPEATED: &[&[u8]] = &[b"Field", b"Value"];
-
-const SELECTIONS: &[&[u8]] = &[b"Expression", b"Number", b"Quick"];
-
-const ACTIONS: &[&[u8]] = &[b"Set", b"Add", b"SetAdd", b"Rename", b"Delete", b"Comment"];
-
-/// What is wrong with an edit.
-#[derive(Clone, Copy)]
-enum Wrong<'t> {
-    /// Something is missing.
-    Lacks(&'static str),
-    /// There are this many of Field, and another number of Value.
-    Unpaired(usize, usize),
-    /// The tool doesn't take the field.
-    Unknown(Element<'t>, Tool),
-    /// There is a second field of the name.
-    Repeated(Element<'t>),
-    /// The field has another value than this, maybe but for blanks around it.
-    Value(Element<'t>, &'static str, bool),
-    /// The field doesn't stand beside the other one.
-    Excluded(Element<'t>, Element<'t>),
-}
-
-/// An edit that is looked through: whether something is wrong with it.
-type Checked<'t> = Result<(), OrMemory<Wrong<'t>>>;
 
 /// Shows the line at which a batch is refused, and says why it can't be read there, or why the record is no edit.
 pub fn explain_bad_batch(
     alloc: Global,
     path: &str,
-    text: &[u8],
+    batch: &[u8],
     line: usize,
+    reason: Option<&Reason>,
     said: &mut Explanation,
 ) {
-    match read(alloc, text) {
-        Ok(database) => {
-            show_line(path, line, line_in(text, line).0, said);
-            explain_record(alloc, path, &database, line, said);
-        }
-        Err(Fault::BadLine { .. }) => explain_bad_line(path, text, line, said),
-        Err(Fault::OpenLine { .. }) => explain_open_line(path, text, line, said),
-        Err(_) => {}
+    let shown = first_line(from_line(batch, line));
+    if let Some(Reason::Line(_)) = reason {
+        return explain_unread(alloc, path, batch, line, shown, said);
+    }
+    show_line(path, line, without_cr(shown), said);
+    if let Some(Reason::Edit(wrong)) = reason {
+        say(path, batch, wrong, said);
     }
 }
 
-/// Says why the record is no edit that begins at a line.
-fn explain_record(
+/// Shows a line at which a batch can't be read, and says why.
+fn explain_unread(
     alloc: Global,
     path: &str,
-    database: &Database<'_>,
+    batch: &[u8],
     line: usize,
+    shown: &[u8],
     said: &mut Explanation,
 ) {
-    if let Some(index) = index_at(database, line)
-        && let Some(record) = record_with(database, index)
-        && let Err(OrMemory::Refused(wrong)) = check(alloc, elements_of(database, record))
-    {
-        say(path, database, wrong, said);
+    match read(alloc, batch) {
+        Err(Fault::OpenLine { .. }) => explain_open_line(path, line, shown, said),
+        _ => explain_bad_line(path, line, shown, said),
     }
 }
 
 /// Says what is wrong with an edit, and in which line.
-fn say(path: &str, database: &Database<'_>, wrong: Wrong<'_>, said: &mut Explanation) {
+fn say(path: &str, batch: &[u8], wrong: &BadEdit, said: &mut Explanation) {
     match wrong {
-        Wrong::Lacks(needed) => said.add(&[needed]),
-        Wrong::Unpaired(names, values) => say_counts(names, values, said),
-        Wrong::Unknown(field, _)
-        | Wrong::Repeated(field)
-        | Wrong::Value(field, _, _)
-        | Wrong::Excluded(field, _) => {
-            say_field(
-                path,
-                database.line_of(field.at),
-                wrong,
-                name_of(&field),
-                said,
-            );
+        BadEdit::Lacks(needed) => said.add(&[lack_of(*needed)]),
+        BadEdit::Unpaired { names, values } => say_counts(*names, *values, said),
+        BadEdit::Unknown { line, tool } => {
+            let (tool, name) = (as_text(tool.as_slice()), name_in(batch, *line));
+            say_unknown(path, *line, tool, name, capital_hint(name), said);
         }
-    }
-}
-
-/// Says what is wrong with the field of a line and a name.
-fn say_field(path: &str, line: usize, wrong: Wrong<'_>, name: &str, said: &mut Explanation) {
-    match wrong {
-        Wrong::Unknown(_, tool) => say_unknown(
-            path,
+        BadEdit::Repeated { line } => {
+            let name = name_in(batch, *line);
+            said.add_at(path, *line, &[name, " stands in this edit already"]);
+        }
+        BadEdit::Value {
             line,
-            as_text(tool.name()),
-            name,
-            capital_hint(name),
-            said,
-        ),
-        Wrong::Repeated(_) => said.add_at(path, line, &[name, " stands in this edit already"]),
-        Wrong::Value(_, wanted, is_padded) => say_value(
-            path,
-            line,
-            name,
             wanted,
-            blank_hint(is_padded),
-            said,
-        ),
-        Wrong::Excluded(_, other) => {
-            said.add_at(
-                path,
-                line,
-                &[name, " doesn't stand beside ", name_of(&other)],
-            );
+            is_padded,
+        } => {
+            let (name, hint) = (name_in(batch, *line), blank_hint(*is_padded));
+            say_value(path, *line, name, word_of(*wanted), hint, said);
         }
-        Wrong::Lacks(_) | Wrong::Unpaired(_, _) => {}
+        BadEdit::Excluded { line, other } => {
+            let (name, other) = (name_in(batch, *line), name_in(batch, *other));
+            said.add_at(path, *line, &[name, " doesn't stand beside ", other]);
+        }
     }
 }
 
@@ -142,19 +81,23 @@ fn say_unknown<'x>(
     said.add_at(path, line, &[tool, " takes no ", name, hint]);
 }
 
+/// What is said of a name that no tool takes as it is written.
+fn capital_hint(name: &str) -> &'static str {
+    match name.as_bytes() {
+        [b'a'..=b'z', ..] => ": the names of fields begin with a capital letter",
+        _ => "",
+    }
+}
+
 fn say_value<'x>(
     path: &str,
     line: usize,
     name: &'x str,
     wanted: &'x str,
-    no_blank: &'x str,
+    hint: &'x str,
     said: &mut Explanation,
 ) {
-    said.add_at(
-        path,
-        line,
-        &["the value of ", name, " is ", wanted, no_blank],
-    );
+    said.add_at(path, line, &["the value of ", name, " is ", wanted, hint]);
 }
 
 /// What is said of a value that has blanks around it.
@@ -177,150 +120,34 @@ fn say_counts(names: usize, values: usize, said: &mut Explanation) {
     ]);
 }
 
-/// Looks through the elements of an edit.
-fn check<'t>(alloc: Global, own: &[Element<'t>]) -> Checked<'t> {
-    let Some(field) = first_of(own, &[b"Tool"]) else {
-        return lacks(match first_of(own, &[b"tool"]) {
-            Some(_) => CAPITAL,
-            None => TOOL,
-        });
-    };
-    let tool = tool_in(alloc, &field)?;
-    check_names(own, tool)?;
-    check_repeated(own)?;
-    check_words(alloc, own)?;
-    check_excluded(own, SELECTIONS)?;
-    match tool {
-        Tool::RecIns => check_insertion(own),
-        Tool::RecSet => check_setting(own),
-        _ => Ok(()),
-    }
-}
-
-fn lacks<'t>(needed: &'static str) -> Checked<'t> {
-    Err(OrMemory::Refused(Wrong::Lacks(needed)))
-}
-
-/// The tool that a Tool names.
-fn tool_in<'t>(alloc: Global, field: &Element<'t>) -> Result<Tool, OrMemory<Wrong<'t>>> {
-    let value = value_of(alloc, field)?;
-    tool_named(field, value.bytes())
-}
-
-fn tool_named<'t>(field: &Element<'t>, word: &[u8]) -> Result<Tool, OrMemory<Wrong<'t>>> {
-    let is_padded = tool_by(BlankOrNewline.trim(word)).is_some();
-    tool_by(word).ok_or(OrMemory::Refused(Wrong::Value(*field, TOOLS, is_padded)))
-}
-
-/// The first field that has one of these names.
-fn first_of<'t>(own: &[Element<'t>], names: &[&[u8]]) -> Option<Element<'t>> {
-    own.iter().find(|element| is_among(names, element)).copied()
-}
-
-/// Whether an element has one of these names.
-fn is_among(names: &[&[u8]], element: &Element<'_>) -> bool {
-    names.contains(&element.name())
-}
-
-/// Whether the tool takes each field.
-fn check_names<'t>(own: &[Element<'t>], tool: Tool) -> Checked<'t> {
-    for element in own {
-        if element.is_field() && !is_among(names_for(tool), element) {
-            return Err(OrMemory::Refused(Wrong::Unknown(*element, tool)));
+fn lack_of(needed: Needed) -> &'static str {
+    match needed {
+        Needed::Tool => "an edit needs a Tool: recins, recdel, recset or recfix",
+        Needed::Capital => {
+            "an edit needs a Tool, with a capital: recins, recdel, recset or recfix"
         }
-    }
-    Ok(())
-}
-
-/// What is said of a name that no tool takes as it is written.
-fn capital_hint(name: &str) -> &'static str {
-    match name.as_bytes() {
-        [b'a'..=b'z', ..] => ": the names of fields begin with a capital letter",
-        _ => "",
+        Needed::Fields => "recset needs Fields",
+        Needed::Action => "recset needs one of Set, Add, SetAdd, Rename, Delete and Comment",
     }
 }
 
-/// Whether each field stands once that may not be repeated.
-fn check_repeated<'t>(own: &[Element<'t>]) -> Checked<'t> {
-    for element in own {
-        let name = element.name();
-        if element.is_field()
-            && !REPEATED.contains(&name)
-            && let Some(first) = first_of(own, &[name])
-            && first.at < element.at
-        {
-            return Err(OrMemory::Refused(Wrong::Repeated(*element)));
-        }
-    }
-    Ok(())
-}
-
-/// Whether each field has its value that can have one only.
-fn check_words<'t>(alloc: Global, own: &[Element<'t>]) -> Checked<'t> {
-    for element in own {
-        if let Some(wanted) = word_for(element.name()) {
-            check_word(alloc, element, wanted)?;
-        }
-    }
-    Ok(())
-}
-
-/// The only value that a field of this name can have.
-fn word_for(name: &[u8]) -> Option<&'static str> {
-    if name == b"Auto".as_slice() {
-        Some("no")
-    } else if name == b"Delete".as_slice() || name == b"Comment".as_slice() {
-        Some("yes")
-    } else {
-        None
+fn word_of(wanted: Wanted) -> &'static str {
+    match wanted {
+        Wanted::Tool => "recins, recdel, recset or recfix",
+        Wanted::Yes => "yes",
+        Wanted::No => "no",
     }
 }
 
-fn check_word<'t>(alloc: Global, field: &Element<'t>, wanted: &'static str) -> Checked<'t> {
-    let value = value_of(alloc, field)?;
-    if value.bytes() == wanted.as_bytes() {
-        return Ok(());
-    }
-    let is_padded = BlankOrNewline.trim(value.bytes()) == wanted.as_bytes();
-    Err(OrMemory::Refused(Wrong::Value(*field, wanted, is_padded)))
-}
-
-/// Whether no two fields have one of these names.
-fn check_excluded<'t>(own: &[Element<'t>], names: &[&[u8]]) -> Checked<'t> {
-    let mut found = own.iter().filter(|element| is_among(names, element));
-    match (found.next(), found.next()) {
-        (Some(first), Some(second)) => Err(OrMemory::Refused(Wrong::Excluded(*second, *first))),
-        _ => Ok(()),
-    }
-}
-
-fn check_insertion<'t>(own: &[Element<'t>]) -> Checked<'t> {
-    let Some(pair) = first_of(own, REPEATED) else {
-        return Ok(());
-    };
-    if let Some(record) = first_of(own, &[b"Record"]) {
-        return Err(OrMemory::Refused(Wrong::Excluded(pair, record)));
-    }
-    let (names, values) = (count_of(own, b"Field"), count_of(own, b"Value"));
-    if names == values {
-        Ok(())
-    } else {
-        Err(OrMemory::Refused(Wrong::Unpaired(names, values)))
-    }
-}
-
-fn check_setting<'t>(own: &[Element<'t>]) -> Checked<'t> {
-    if first_of(own, &[b"Fields"]).is_none() {
-        return lacks("recset needs Fields");
-    }
-    if first_of(own, ACTIONS).is_none() {
-        return lacks(ACTION);
-    }
-    check_excluded(own, ACTIONS)
-}
-
-fn name_of<'t>(field: &Element<'t>) -> &'t str {
-    as_text(field.name())
+/// The name of the field that begins in a line of a batch.
+fn name_in(batch: &[u8], line: usize) -> &str {
+    let field = first_line(from_line(batch, line));
+    as_text(
+        field
+            .splitn(2, |byte| *byte == b':')
+            .next()
+            .unwrap_or(field),
+    )
 }
 
 /// A name as a text.

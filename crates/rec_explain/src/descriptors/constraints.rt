@@ -1,37 +1,18 @@
 //! Constraints that are no expressions.
 use crate::explanation::Explanation;
-use crate::lines::shown::{plain, show_place};
-use itoa::Buffer;
-use rec_select::Expr;
-use rec_text::Fault;
-use rec_text::Space::BlankOrNewline;
+use crate::lines::shown::show_place;
+use rec_text::Breach;
 use std::alloc::Global;
 
-/// Shows where a constraint has a fault, and says what may be meant.
-pub fn explain_constraint(alloc: Global, value: &[u8], said: &mut Explanation) {
-    if BlankOrNewline.trim_start(value).is_empty() {
-        return said.add(&["%constraint needs an expression, such as Age > 0"]);
-    }
-    let Some(at) = fault_in(alloc, value) else {
+/// Shows where a constraint has its fault, and says what may be meant.
+pub fn explain_constraint(alloc: Global, breach: &Breach, at: usize, said: &mut Explanation) {
+    let Some(value) = &breach.word else {
         return;
     };
-    let (line, place) = line_around(value, at);
-    if plain(line).is_some() {
-        show_place(alloc, line, place, said);
-    } else {
-        let mut digits = Buffer::new();
-        said.add(&["the expression has an error at byte ", digits.format(at)]);
-    }
-    if let Some(hint) = meant_at(value, at) {
+    let (line, place) = line_around(value.as_slice(), at);
+    show_place(alloc, line, place, said);
+    if let Some(hint) = meant_at(value.as_slice(), at) {
         said.add(&[hint]);
-    }
-}
-
-/// The place of the fault in an expression.
-fn fault_in(alloc: Global, text: &[u8]) -> Option<usize> {
-    match Expr::parse(alloc, text) {
-        Err(Fault::BadExpression { at }) => Some(at),
-        _ => None,
     }
 }
 

@@ -1,11 +1,15 @@
 //! What a descriptor says of the types of fields.
-use crate::descriptors::kind_words::is_known;
-use crate::descriptors::words::{first_word, split_word};
 use crate::lines::places::value_of;
 use rec_text::Element;
 use rec_text::Space::BlankOrNewline;
 use rec_tools::Bytes;
 use std::alloc::{AllocError, Global};
+
+/// The kinds that need no definition.
+const KNOWN: &[&[u8]] = &[
+    b"int", b"line", b"bool", b"range", b"size", b"enum", b"regexp", b"real", b"date", b"email",
+    b"uuid", b"field", b"rec",
+];
 
 /// How many definitions are followed from one to the next.
 const FOLLOWED: usize = 100;
@@ -56,7 +60,7 @@ pub fn meaning_of(
     let mut kind = kind;
     for _ in 0..FOLLOWED {
         let word = first_word(kind.as_slice());
-        if is_known(word) {
+        if KNOWN.contains(&word) {
             return Ok(Some(kind));
         }
         match last_said(alloc, descriptor, b"%typedef", word)? {
@@ -76,4 +80,25 @@ pub fn in_one_line(alloc: Global, text: &[u8]) -> Result<Bytes, AllocError> {
         }
     }
     Ok(Bytes::from_vec(line))
+}
+
+/// The first word of a text, and what follows it.
+fn split_word(text: &[u8]) -> Option<(&[u8], &[u8])> {
+    let found = BlankOrNewline.trim_start(text);
+    if found.is_empty() {
+        return None;
+    }
+    let len = found
+        .iter()
+        .position(|byte| BlankOrNewline.has(*byte))
+        .unwrap_or(found.len());
+    Some(found.split_at(len))
+}
+
+/// The first word of a text, if it has one.
+pub fn first_word(text: &[u8]) -> &[u8] {
+    match split_word(text) {
+        Some((word, _)) => word,
+        None => &[],
+    }
 }

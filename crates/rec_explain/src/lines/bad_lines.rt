@@ -1,25 +1,23 @@
 //! Lines that are no field, comment or blank line.
 use crate::explanation::Explanation;
-use crate::lines::shown::{line_in, show_ending, show_line};
+use crate::lines::shown::{show_ending, show_line, without_cr};
+use rec_text::SHOWN;
 
-/// Shows a line of a text that is no field, comment or blank line, and says why it is none.
-pub fn explain_bad_line(path: &str, text: &[u8], line: usize, said: &mut Explanation) {
-    let (shown, has_cr) = line_in(text, line);
-    if shown.starts_with(b"\xEF\xBB\xBF") {
-        return said.add_at(path, line, &["a byte order mark, which no rec file has"]);
+/// Shows a line that is no field, comment or blank line, and says why it is none.
+pub fn explain_bad_line(path: &str, number: usize, line: &[u8], said: &mut Explanation) {
+    if line.starts_with(b"\xEF\xBB\xBF") {
+        return said.add_at(path, number, &["a byte order mark, which no rec file has"]);
     }
-    show_line(path, line, shown, said);
-    if let Some(reason) = reason_of(shown) {
+    show_line(path, number, without_cr(line), said);
+    if let Some(reason) = reason_of(without_cr(line)) {
         said.add(&[reason]);
     }
-    if has_cr {
-        show_ending(path, line, said);
-    }
+    show_ending(path, number, line, said);
 }
 
-/// Shows a line of a text that ends in a backslash with no line after it, and says what to do.
-pub fn explain_open_line(path: &str, text: &[u8], line: usize, said: &mut Explanation) {
-    show_line(path, line, line_in(text, line).0, said);
+/// Shows a line that ends in a backslash with no line after it, and says what to do.
+pub fn explain_open_line(path: &str, number: usize, line: &[u8], said: &mut Explanation) {
+    show_line(path, number, without_cr(line), said);
     said.add(&[
         "a backslash at the end joins a line with the next, and there is none: take it away, or put an empty line after it",
     ]);
@@ -50,7 +48,12 @@ fn is_conflict(line: &[u8]) -> bool {
 /// Why what a line begins with is no name with a colon after it.
 fn reason_of_name(line: &[u8]) -> Option<&'static str> {
     let Some(colon) = line.iter().position(|byte| *byte == b':') else {
-        return Some("a field needs a colon after its name, as in Name: value");
+        // a longer one is cut, and may have a colon
+        return if line.len() > SHOWN {
+            None
+        } else {
+            Some("a field needs a colon after its name, as in Name: value")
+        };
     };
     let name = line.get(..colon)?;
     if has_blank(name.trim_ascii_end()) {

@@ -1,26 +1,11 @@
 //! Places in texts.
-use rec_text::{Database, Element, Value, split_line};
+use rec_text::{Database, Element, Value, first_line, from_line};
 use std::alloc::{AllocError, Global};
 use std::ops::Range;
 
 /// The place in a text at which a line begins.
-pub fn start_of(text: &[u8], line: usize) -> usize {
-    let mut rest = text;
-    for _ in 1..line {
-        match split_line(rest) {
-            Some((_, after)) => rest = after,
-            None => return text.len(),
-        }
-    }
-    text.len().saturating_sub(rest.len())
-}
-
-/// The first line of a text, without its newline.
-pub fn first_line(text: &[u8]) -> &[u8] {
-    match split_line(text) {
-        Some((line, _)) => line,
-        None => text,
-    }
+fn start_of(text: &[u8], line: usize) -> usize {
+    text.len().saturating_sub(from_line(text, line).len())
 }
 
 /// The index of the element that begins where a line does.

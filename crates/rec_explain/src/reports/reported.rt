@@ -4,14 +4,14 @@ ghost use Rattle.rec_explain.specs.Lines.{AreLines, IsShown};
 
 use crate::about::About;
 use crate::explanation::Explanation;
-use crate::lines::places::{field_of, first_line, said_by};
+use crate::lines::places::{field_of, said_by};
 use crate::lines::shown::plain;
 use crate::reports::place::{Place, place_of};
 use crate::reports::reasons::reason_of;
 use crate::reports::shared_values::{Shared, first_shared};
 use itoa::Buffer;
 use rec_check::RecFile;
-use rec_text::Element;
+use rec_text::{Element, first_line};
 use rec_tools::{Rule, Violation};
 use std::alloc::Global;
 

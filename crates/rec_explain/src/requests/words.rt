@@ -1,8 +1,9 @@
 //! The texts of a request in which a fault has a place.
+use crate::descriptors::rules::rule_of;
 use crate::explanation::Explanation;
-use crate::lines::shown::show_place;
-use rec_select::FieldValue;
-use rec_text::begins_name;
+use crate::lines::shown::{plain, show_place};
+use rec_select::{Expr, FieldValue};
+use rec_text::{Broken, begins_name};
 use rec_tools::{Action, Ask, Bytes, EditRequest, Fault, Form, Request};
 use std::alloc::Global;
 
@@ -58,11 +59,22 @@ impl<'r> Words<'r> {
         }
     }
 
-    pub fn expression(self) -> Option<&'r [u8]> {
+    fn expression(self) -> Option<&'r [u8]> {
         match self.by? {
             Ask::Expr(text) => Some(text.as_slice()),
             _ => None,
         }
+    }
+
+    /// Shows the expression whose pattern is refused, if it is one of its own, and says what it is to be.
+    pub fn explain_pattern(self, alloc: Global, said: &mut Explanation) {
+        if let Some(expression) = self.expression()
+            && let Err(Fault::BadPattern) = Expr::parse(alloc, expression)
+            && let Some(shown) = plain(expression)
+        {
+            said.add(&[shown]);
+        }
+        said.add(&[rule_of(Broken::Pattern)]);
     }
 
     /// Whether a value is asked for by what is no name of a field.

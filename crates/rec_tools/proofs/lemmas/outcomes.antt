@@ -6,3 +6,4 @@ pub mod LeftLemmas
 pub mod OutcomeLemmas
 pub mod DecideLemmas
 pub mod StoreLemmas
+pub mod LaterLemmas

@@ -10,24 +10,24 @@ returns-in_err-history-clause-found c =
 
 pub returns-then-lacks-clause-found : goal.returns-then-lacks-clause-found
 returns-then-lacks-clause-found c =
-    move-missing c.args.file.now c.args.journal.now c.args.direction c.args.through _ c.in_ok-history.ensures (sym c.if-lacks.true ∙ c.lacks.ensures)
+    rw c.refused_on.ensures (move-missing c.args.file.now c.args.journal.now c.args.direction c.args.through _ c.in_ok-history.ensures (sym c.if-lacks.true ∙ c.lacks.ensures))
 
-pub returns-in_err-plan-clause-found : goal.returns-in_err-plan-clause-found
-returns-in_err-plan-clause-found c =
-    rw (kept_error c.from_residual-in_err-plan.ensures.1) (move-refused c.args.file.now c.args.journal.now c.args.direction c.args.through _ c.in_ok-history.ensures
-    (sym c.lacks.ensures ∙ c.if-lacks.false) _ c.in_err-plan.ensures.plan.found)
+pub returns-in-Err-clause-found : goal.returns-in-Err-clause-found
+returns-in-Err-clause-found c =
+    rw c.refused_on-in-Err.ensures (move-refused c.args.file.now c.args.journal.now c.args.direction c.args.through _ c.in_ok-history.ensures
+    (sym c.lacks.ensures ∙ c.if-lacks.false) _ c.in-Err.ensures.plan.found)
 
 pub returns-clause-found : goal.returns-clause-found
 returns-clause-found c =
     move-planned c.args.file.now c.args.journal.now c.args.direction c.args.through _ c.in_ok-history.ensures (sym c.lacks.ensures ∙ c.if-lacks.false)
-    _ c.in_ok-plan.ensures.plan.found c.in_ok-plan.ensures.plan.safe _ _ c.in_ok-plan.ensures.nearest _ c.reply_of-reply.ensures _ (ap outcome_of c.put_plan.ensures)
+    _ c.in-Ok.ensures.plan.found c.in-Ok.ensures.plan.safe _ _ c.in-Ok.ensures.nearest _ c.reply_of-reply.ensures _ (ap outcome_of c.put_plan.ensures)
 
 pub returns-clause-course : goal.returns-clause-course
 returns-clause-course c =
     let (e, nearest, steps) = c.in-Some.ensures in
-    move-course c.args.file.now c.args.journal.now c.args.direction c.args.through _ c.in_ok-history.ensures _ c.in_ok-plan.ensures.plan.found
-    c.in_ok-plan.ensures.plan.safe _ e nearest steps _ _ c.put_plan.ensures
+    move-course c.args.file.now c.args.journal.now c.args.direction c.args.through _ c.in_ok-history.ensures _ c.in-Ok.ensures.plan.found
+    c.in-Ok.ensures.plan.safe _ e nearest steps _ _ c.put_plan.ensures
 
 pub unreachable-requires : goal.unreachable-requires
 unreachable-requires c =
-    move-has_edit c.args.file.now c.args.journal.now c.args.direction c.args.through _ c.in_ok-history.ensures _ c.in_ok-plan.ensures.plan.found c.in-None.ensures
+    move-has_edit c.args.file.now c.args.journal.now c.args.direction c.args.through _ c.in_ok-history.ensures _ c.in-Ok.ensures.plan.found c.in-None.ensures

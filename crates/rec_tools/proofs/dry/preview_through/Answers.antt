@@ -20,8 +20,9 @@ returns-in-Ok-clause-looks g c =
 
 pub returns-in-Err-clause-attempts : goal.returns-in-Err-clause-attempts
 returns-in-Err-clause-attempts g c =
-    unread_dry g.H.Home.goes g.S.Sink.contents g.S.Sink.failure_count c.args.style.now c.args.direction c.args.number c.args.home.now c.read_both.new.home
-    c.args.out.now c.in-Err.fault (rw c.in-Err.is at c.read_both.ensures.calls)
+    rw c.from.ensures
+    (unread_dry g.H.Home.goes g.S.Sink.contents g.S.Sink.failure_count c.args.style.now c.args.direction c.args.number c.args.home.now c.read_both.new.home
+    c.args.out.now c.in-Err.fault (rw c.in-Err.is at c.read_both.ensures.calls))
 
 pub returns-in-Err-clause-looks : goal.returns-in-Err-clause-looks
 returns-in-Err-clause-looks g c =

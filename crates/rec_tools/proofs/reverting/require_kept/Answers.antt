@@ -8,7 +8,7 @@ use Rattle.rec_tools.proofs.reverting.require_kept.Goals as goal
 
 pub returns-in-Err-clause-found : goal.returns-in-Err-clause-found
 returns-in-Err-clause-found c =
-    rw c.unread.ensures (not_kept c.args.force c.args.text.now (unread c.in-Err.fault) (unread_is c.args.text.now c.in-Err.fault c.in-Err.ensures.refused))
+    rw (c.unread.ensures, c.from.ensures) (not_kept c.args.force c.args.text.now (unread c.in-Err.refusal) (unread_is c.args.text.now c.in-Err.refusal c.in-Err.ensures.refused))
 
 pub returns-then-force-clause-found : goal.returns-then-force-clause-found
 returns-then-force-clause-found c = kept_forced c.args.text.now _ c.in-Ok.ensures.found c.args.force c.if-force.true

@@ -1,4 +1,4 @@
-use Rattle.std.proofs.Common.{refl, sym, subst}
+use Rattle.std.proofs.Common.{Err, refl, sym, ap, subst}
 use Rattle.rec_files.specs.Succeeding.{HomeGoes}
 use Rattle.recu.specs.Answers.{out_of, Answers}
 use Rattle.recu.proofs.AnswerLemmas.{new_output}
@@ -8,7 +8,7 @@ pub returns-in_default : goal.returns-in_default
 returns-in_default g c = record {
   answers = (
     c.args.home.now,
-    (refl, refl),
+    (ap Err c.from.ensures, refl),
     record {
       shut = c.close.ensures.shut;
       disk = c.close.ensures.same;

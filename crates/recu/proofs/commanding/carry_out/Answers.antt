@@ -1,4 +1,4 @@
-use Rattle.std.proofs.Common.{◌∙◌, refl, string_bytes, option_map, Ok, Err}
+use Rattle.std.proofs.Common.{◌∙◌, refl, ap, string_bytes, option_map, Ok, Err}
 use Rattle.recu.proofs.commanding.carry_out.Goals as goal
 
 pub returns-in-Ok : goal.returns-in-Ok
@@ -24,5 +24,5 @@ returns-in-Ok g c =
 
 pub returns-in-Err : goal.returns-in-Err
 returns-in-Err g c = record {
-  answer = (Err c.in-Err.fault, c.in-Err.ensures.refused, (refl, c.task_of.ensures.same, refl));
+  answer = (Err c.in-Err.fault, c.in-Err.ensures.refused, (ap Err c.from.ensures, c.task_of.ensures.same, refl));
 }

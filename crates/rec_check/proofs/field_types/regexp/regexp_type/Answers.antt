@@ -5,7 +5,8 @@ use Rattle.rec_check.proofs.lemmas.field_types.RegexpLemmas.{regexp_of-none, reg
 use Rattle.rec_check.proofs.field_types.regexp.regexp_type.Goals as goal
 
 pub returns-in_default-from_utf8 : goal.returns-in_default-from_utf8
-returns-in_default-from_utf8 c = regexp_of-none c.args.text.now _ _ c.strip.ensures c.in-Some.ensures c.in_default-from_utf8.ensures.cases.0
+returns-in_default-from_utf8 c =
+    rw c.bad-in_default-from_utf8.ensures (regexp_of-none c.args.text.now _ _ c.strip.ensures c.in-Some.ensures c.in_default-from_utf8.ensures.cases.0)
 
 pub returns-in_err-pattern : goal.returns-in_err-pattern
 returns-in_err-pattern c =

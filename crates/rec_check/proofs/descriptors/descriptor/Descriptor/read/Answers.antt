@@ -12,8 +12,8 @@ returns-in-Err-clause-refused c =
     let fields = c.args.fields.now in
     read_fault c.args.types.now (pieces_of fields) c.loop-field.field-index (said c.loop-field.descriptor) c.loop-field.invariant
     _ (piece_met fields c.loop-field.field-index _ c.loop-field-test.true) (text_of c.args.database.now) fields _ refl
-    (slice_get-get_or fields c.loop-field.field-index _ c.loop-field-test.true) c.line_of.result c.line_of.ensures (said c.add_field.new.self)
-    c.in-Err.refusal c.fault_at_line.result c.fault_at_line.ensures c.in-Err.ensures
+    (slice_get-get_or fields c.loop-field.field-index _ c.loop-field-test.true) c.line_of-line.result c.line_of-line.ensures (said c.add_field.new.self)
+    c.in-Err.refusal c.refusal_at_line.result c.refusal_at_line.ensures c.in-Err.ensures
 
 pub loop-field-preserved : goal.loop-field-preserved
 loop-field-preserved c =

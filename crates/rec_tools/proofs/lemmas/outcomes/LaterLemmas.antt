@@ -12,7 +12,7 @@ use Rattle.rec_diff.specs.Composing.{ComposesAll, patches_of}
 use Rattle.rec_diff.specs.Reverts.{changing}
 use Rattle.rec_diff.proofs.lemmas.composing.LeadingLemmas.{composes_splices}
 use Rattle.rec_diff.proofs.lemmas.reverting.PatchLemmas.{changing_leads}
-use Rattle.rec_explain.specs.Later.{LeadOn}
+use Rattle.rec_tools.specs.proving.Reverting.{LeadOn}
 
 LeadsBy-append : (steps others : List EditStep) (text file : List ℕ) → LeadsBy (steps ++ others) text file → (between : List ℕ) × LeadsBy steps text between
 LeadsBy-append [] others text file h = (text, refl)

@@ -1,6 +1,6 @@
 use Rattle.std.proofs.Common.{◌≤◌, ◌-◌, length, drop}
-use Rattle.rec_explain.specs.Later.{LeadOn}
-use Rattle.rec_explain.proofs.reverts.in_effect.deeds_of.Given as goal
+use Rattle.rec_tools.specs.proving.Reverting.{LeadOn}
+use Rattle.rec_tools.proofs.obstacles.deeds.deeds_of.Given as goal
 
 -- the edits that are left lead on from the text here
 abbrev pub invariant-loop-count : goal.invariant-loop-count

@@ -1,7 +1,7 @@
 use Rattle.std.proofs.Common.{◌∙◌, ap}
 use Rattle.rec_journal.specs.Revisions.{joined_steps, step_lists}
-use Rattle.rec_explain.proofs.LaterLemmas.{LeadsBy-join}
-use Rattle.rec_explain.proofs.reverts.later_edits.place_of.Goals as goal
+use Rattle.rec_tools.proofs.lemmas.outcomes.LaterLemmas.{LeadsBy-join}
+use Rattle.rec_tools.proofs.obstacles.place_of.Goals as goal
 
 -- the edit's steps, and then those of the later ones
 pub deeds_of-requires : goal.deeds_of-requires

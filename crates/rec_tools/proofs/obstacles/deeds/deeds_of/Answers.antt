@@ -1,7 +1,7 @@
 use Rattle.std.proofs.Common.{◌≡◌, ◌∙◌, ◌+◌, ◌∷◌, ap, drop, sym}
 use Rattle.std.proofs.lemmas.List.{drop_more}
-use Rattle.rec_explain.proofs.LaterLemmas.{first_leads}
-use Rattle.rec_explain.proofs.reverts.in_effect.deeds_of.Goals as goal
+use Rattle.rec_tools.proofs.lemmas.outcomes.LaterLemmas.{first_leads}
+use Rattle.rec_tools.proofs.obstacles.deeds.deeds_of.Goals as goal
 
 -- the next edit leads on from the text so far
 pub deed_of-requires : goal.deed_of-requires

@@ -2,11 +2,12 @@
 ghost use Rattle.std.specs.Prelude.{◌++◌, List, ℕ, IfOk};
 ghost use Rattle.rec_journal.specs.declared.event.EditStep.{EditStep};
 ghost use Rattle.rec_journal.specs.Revisions.{LeadsBy};
-ghost use Rattle.rec_explain.specs.Later.{LeadOn};
+ghost use Rattle.rec_tools.specs.proving.Reverting.{LeadOn};
 
-use crate::reverts::places::{Places, Toward, is_changed, lines_at, moved, places_of};
+use crate::obstacles::places::{Places, Toward, is_changed, lines_at, moved, places_of};
 use rec_diff::compose;
-use rec_journal::{Bytes, EditStep, Fault};
+use rec_journal::EditStep;
+use rec_text::{Bytes, Fault};
 use std::alloc::{AllocError, Global};
 use std::hash::{DefaultHasher, Hasher};
 use std::ops::Range;

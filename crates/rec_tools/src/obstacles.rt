@@ -1,32 +1,17 @@
-//! Which later edit is in the way of a revert.
+//! What keeps an edit from being taken back alone.
 ghost use Rattle.std.specs.Prelude.{◌≡◌, ◌∷◌, IfOk};
 ghost use Rattle.rec_journal.specs.Revisions.{step_lists};
-ghost use Rattle.rec_explain.specs.Later.{StandsBefore};
+ghost use Rattle.rec_tools.specs.proving.Reverting.{StandsBefore};
 
-use crate::about::About;
-use crate::explanation::Explanation;
-use crate::notes::{name_of, say};
-use crate::reverts::changes::{edit_back, history_of};
-use crate::reverts::in_effect::{Deed, deeds_of, newest_at, newest_standing, places_after};
-use crate::reverts::places::{lines_at, paragraphs_at};
-use rec_journal::{EditStep, Fault, History, StandingEdit, Step, standing_edit};
-use rec_tools::Request;
+mod deeds;
+mod places;
+
+use deeds::{Deed, deeds_of, newest_at, newest_standing, places_after};
+use places::{lines_at, paragraphs_at};
+use rec_journal::{EditStep, History, StandingEdit, Step};
+use rec_text::{Bytes, Fault, Obstacle};
 use std::alloc::{AllocError, Global};
 use std::ops::Range;
-
-/// Why an edit can't be reverted.
-#[derive(Clone, Copy)]
-enum Obstacle {
-    /// A later edit that is in the way, and can be reverted.
-    Edit(Step),
-    /// Later edits took it back: one that reverted it, if one did.
-    TakenBack(Option<Step>),
-    /// The file would not read.
-    Text,
-    /// No later edit stands, and yet it can't be told apart from those that were made and taken back.
-    Inseparable,
-    Unknown,
-}
 
 /// Where the obstacle is, as far as edits are concerned.
 #[derive(Clone, Copy)]
@@ -39,64 +24,24 @@ enum Place {
     Nowhere,
 }
 
-/// Says which later edit is to be reverted before an edit, or else why that one can't be reverted.
-pub fn explain_later(alloc: Global, about: &About<'_>, request: &Request, said: &mut Explanation) {
-    if let Request::Revert { number, .. } = request
-        && let Some(file) = about.text
-        && let Some(journal) = about.events
-        && let Ok(obstacle) = obstacle_of(alloc, file, journal, *number)
-    {
-        say(line_of(alloc, about, *number, obstacle), said);
-    }
-}
-
-fn line_of(
+/// What keeps the edit of a number from being taken back alone, if there is memory to tell it.
+pub fn obstacle_of(
     alloc: Global,
-    about: &About<'_>,
+    history: &History,
     number: usize,
-    obstacle: Obstacle,
-) -> Result<String, AllocError> {
-    let About { file, journal, .. } = *about;
-    match obstacle {
-        Obstacle::Edit(step) => format!(in alloc;
-            "{journal}: edit {}, {}, is in the way; revert it first",
-            step.number,
-            name_of(step.tool)
-        ),
-        Obstacle::TakenBack(None) => {
-            format!(in alloc; "{journal}: edit {number} was taken back already")
-        }
-        Obstacle::TakenBack(Some(step)) => format!(in alloc;
-            "{journal}: edit {number} was taken back already, by edit {}",
-            step.number
-        ),
-        Obstacle::Text => format!(in alloc; "{file}: without edit {number} it would not read"),
-        Obstacle::Inseparable => format!(in alloc;
-            "{journal}: edit {number} can't be taken back alone any more; undo --through {number} takes it back with all later ones"
-        ),
-        Obstacle::Unknown => Ok(String::new(alloc)),
-    }
-}
-
-/// Why the edit of a number can't be reverted.
-fn obstacle_of(
-    alloc: Global,
+    standing: &StandingEdit<'_>,
     file: &[u8],
-    journal: &[u8],
-    number: usize,
-) -> Result<Obstacle, Fault> {
-    let history = history_of(alloc, file, journal)?;
-    let standing = standing_edit(alloc, &history, file, journal, number)?;
-    if edit_back(alloc, &standing, file)?.is_some() {
-        return Ok(Obstacle::Text);
-    }
-    match place_of(alloc, &standing, file)? {
-        Place::Later(place) => Ok(edit_at(&history, number, place)),
-        Place::TakenBack(None) => Ok(Obstacle::TakenBack(None)),
+) -> Option<Obstacle>
+    requires { StandsBefore file.now standing.now }
+{
+    match place_of(alloc, standing, file).ok()? {
+        Place::Later(place) => edit_at(alloc, history, number, place),
+        Place::TakenBack(None) => Some(Obstacle::TakenBack(None)),
         Place::TakenBack(Some(place)) => {
-            Ok(Obstacle::TakenBack(later_at(&history, number, place)))
+            let by = later_at(history, number, place);
+            Some(Obstacle::TakenBack(by.map(|step| step.number)))
         }
-        Place::Nowhere => Ok(Obstacle::Inseparable),
+        Place::Nowhere => Some(Obstacle::Inseparable),
     }
 }
 
@@ -171,12 +116,14 @@ fn newest_in_the_way(
     Ok(newest_standing(edits))
 }
 
-/// The edit at a place among those that stand after the edit of a number.
-fn edit_at(history: &History, number: usize, place: usize) -> Obstacle {
-    match later_at(history, number, place) {
-        Some(step) => Obstacle::Edit(step),
-        None => Obstacle::Unknown,
-    }
+/// That the edit at a place among those that stand after the edit of a number is in the way.
+fn edit_at(alloc: Global, history: &History, number: usize, place: usize) -> Option<Obstacle> {
+    let step = later_at(history, number, place)?;
+    let tool = Bytes::copy_of(alloc, step.tool.name()).ok()?;
+    Some(Obstacle::Edit {
+        number: step.number,
+        tool,
+    })
 }
 
 /// The edit at a place among those that stand after the edit of a number.

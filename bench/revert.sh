@@ -1,6 +1,6 @@
 #!/usr/bin/env bash
-# Times and peak memory of revert, of the newest edit and of the oldest, beside undo of the newest, undo as far as the oldest, and
-# git revert of the same changes.
+# Times and peak memory of revert, of the newest edit and of the oldest, also where that is refused, beside undo of the newest, undo
+# as far as the oldest, and git revert of the same changes.
 #     bench/revert.sh [PROGRAM [EDITS..]]
 # Prints a table: the least of three times, the peak memory, and the time as a multiple of that of an undo. The file has 1 MB, and
 # each edit sets a field of another record; git has a commit for each edit.
@@ -16,6 +16,12 @@ in_git() {
 fresh() {
     cp start.journal db.rec.journal
     cp start.rec db.rec
+}
+
+# after one more edit, of the record of the oldest one
+in_the_way() {
+    cp refused.journal db.rec.journal
+    cp refused.rec db.rec
 }
 
 as_committed() {
@@ -39,6 +45,9 @@ write_edits() {
     in_git tag newest
     cp db.rec start.rec
     cp db.rec.journal start.journal
+    "$program" recset -t Contact -n "$((7919 % last))" -f Street -s 'Another Road' db.rec
+    cp db.rec refused.rec
+    cp db.rec.journal refused.journal
 }
 
 # is_reverted EDITS: a revert of the oldest edit leaves what git leaves
@@ -60,6 +69,7 @@ for size in "${sizes[@]}"; do
     measure 3 fresh 'recu revert, the newest' "$program" revert "$size" db.rec
     measure 3 fresh 'recu revert, the oldest' "$program" revert 1 db.rec
     measure 3 fresh 'the same, --dry-run' "$program" revert --dry-run 1 db.rec
+    measure 3 in_the_way 'recu revert, refused' bash -c '! "$@" 2> said' '' "$program" revert 1 db.rec
     measure 3 fresh 'recu undo --through 1' "$program" undo --through 1 db.rec
     measure 3 as_committed 'git revert, the newest' bash -c 'in_git revert --no-edit newest' ''
     measure 3 as_committed 'git revert, the oldest' bash -c 'in_git revert --no-edit "$1"' '' "newest~$((size - 1))"

@@ -295,7 +295,7 @@ leads_to() {
     has db.rec '%rec: P¶%auto: Id¶¶Id: 5¶N: a¶¶Id: 4¶¶Id: 6¶N: b¶'
     put keyed.rec '%rec: P¶%auto: Id¶%mandatory: N¶¶A: 1¶'
     recu 1 recfix --auto keyed.rec
-    prints '' '5: mandatory N¶line 5: Id: 0 (no N)¶all of these stood before the edit: mend them first, by a batch, by hand, or by edits with --force¶keyed.rec: --force makes the edit all the same¶recu: violations: 1¶'
+    prints '' '5: mandatory N¶line 5: Id: 0 (no N)¶keyed.rec: --force makes the edit all the same¶recu: violations: 1¶'
     does recfix --auto --force --journal=j keyed.rec
     has keyed.rec '%rec: P¶%auto: Id¶%mandatory: N¶¶Id: 0¶A: 1¶'
     only db.rec db.rec.journal j journal keyed.rec

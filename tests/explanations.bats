@@ -121,14 +121,15 @@ batch_explained() {
 
 @test "the edit of a batch that is refused" {
     local set='Tool: recset¶Fields: A¶Set: 2¶'
-    batch_explained "$set¶Tool: recset¶Expression: A ==¶Fields: A¶Set: 3¶" 'changes:5: Tool: recset¶A ==¶  ^' 'expression: error at byte 2'
+    batch_explained "$set¶Tool: recset¶Expression: A ==¶Fields: A¶Set: 3¶" 'changes:5: Tool: recset¶A ==¶  ^¶two values are compared by one =; there are no dates' 'expression: error at byte 2'
     batch_explained "$set¶Tool: recdel¶Number: 0,x¶" 'changes:5: Tool: recdel¶0,x¶  ^¶an index list is such as 0,4-7' 'index list: error at byte 2'
     batch_explained "$set¶Tool: recset¶Fields: A[¶Delete: yes¶" 'changes:5: Tool: recset¶A[¶  ^¶a field list is such as Name,Email[0],Phone[1-2]' 'field list: error at byte 2'
     batch_explained "$set¶Tool: recset¶Fields: A¶Rename: 1¶" 'changes:5: Tool: recset¶1: a name begins with a letter, and goes on with letters, digits and _' 'bad name'
     batch_explained "$set¶# a comment¶Tool: recsel¶" 'changes:6: Tool: recsel¶changes:6: the value of Tool is recins, recdel, recset or recfix' 'batch line 6: not an edit'
-    batch_explained "$set¶# all¶Tool: recdel¶" 'changes:6: Tool: recdel' 'no selection given, use --force'
+    batch_explained "$set¶# all¶Tool: recdel¶" 'changes:6: Tool: recdel¶f: --force would delete 1 record' 'no selection given, use --force'
+    batch_explained "$set¶Tool: recdel¶Comment: yes¶" 'changes:5: Tool: recdel¶f: --force would comment out 1 record' 'no selection given, use --force'
     batch_explained "$set¶Tool: recset¶Fields: A[0]¶Add: 2¶" 'changes:5: Tool: recset¶A[0]¶ ^¶fields are added by their names alone, such as Name,Email' 'field list: error at byte 1'
-    batch_explained "$set¶Tool: recins¶Type: P¶Field: B¶Value: 1¶¶Tool: recset¶Type: Q¶Fields: B¶Delete: yes¶" 'changes:10: Tool: recset¶f: there is no record type' 'no such record type'
+    batch_explained "$set¶Tool: recins¶Type: P¶Field: B¶Value: 1¶¶Tool: recset¶Type: Q¶Fields: B¶Delete: yes¶" 'changes:10: Tool: recset¶f: record types: P' 'no such record type'
     batch_explained "$set¶Tool: recins¶Record: B: 1¶+¶+ C: 1¶¶Tool: recdel¶Number: 0¶" 'changes:5: Tool: recins¶the text has to be one record, as it stands in a file' 'not exactly one record'
     batch_explained "$set¶Tool: recset¶Fields: A¶SetAdd: 3\\\\¶¶¶Tool: recfix¶" 'changes:5: Tool: recset' 'a line of the value ends in a backslash'
 }
@@ -189,14 +190,17 @@ batch_told() {
 @test "the records of a report" {
     local file='%rec: P¶%key: Id¶%type: N int¶%singular: M¶%constraint: N > 0¶¶N: x¶Id: 1¶M: a¶¶M: a¶Id: 2¶N: 1¶¶%rec: Q¶%type: A unknown¶%mandatory: B¶¶A: 1¶'
     put f "$file"
-    recu 1 recset -t Q -n 0 -f A -s 2 f
+    recu 1 recset -t Q -n 0 -f C -a 2 f
     local report='7: type N¶7: constraint 1¶11: singular M¶16: typedef unknown¶19: mandatory B¶'
-    local records='line 7: Id: 1, N: x (int)¶line 7: Id: 1 (N > 0)¶line 11: Id: 2, M: a (also in line 7)¶line 16: %rec: Q, %type: A unknown (nothing defines unknown)¶line 19: A: 2 (no B)¶'
+    local records='line 7: Id: 1, N: x (int)¶line 7: Id: 1 (N > 0)¶line 11: Id: 2, M: a (also in line 7)¶line 16: %rec: Q, %type: A unknown (nothing defines unknown)¶'
     local stood='all of these stood before the edit: mend them first, by a batch, by hand, or by edits with --force¶'
-    prints '' "${report}${records}${stood}f: --force makes the edit all the same¶recu: violations: 5¶"
+    prints '' "${report}${records}line 19: A: 1 (no B)¶${stood}f: --force makes the edit all the same¶recu: violations: 5¶"
+    # the last record is known by its first field, which is another one
+    recu 1 recset -t Q -n 0 -f A -s 2 f
+    prints '' "${report}${records//¶/, as before the edit¶}line 19: A: 2 (no B)¶4 of these stood before the edit¶f: --force makes the edit all the same¶recu: violations: 5¶"
     # on standard error of a terminal alone
     TERM=dumb script -qec "'$recu' recfix f 2> said" shown > /dev/null || true
-    has said "${records/A: 2/A: 1}"
+    has said "${records}line 19: A: 1 (no B)¶"
     recu 1 recfix f
     prints "$report" ''
 }
@@ -206,8 +210,12 @@ batch_told() {
     recu 1 recset -n 0 -f N -s y f
     [ "$(grep -c '^line ' "$BATS_TEST_TMPDIR/err")" = 20 ]
     grep -qx 'line 4: N: y (int)' "$BATS_TEST_TMPDIR/err"
-    grep -qx 'line 42: N: x20 (int)' "$BATS_TEST_TMPDIR/err"
+    grep -qx 'line 42: N: x20 (int), as before the edit' "$BATS_TEST_TMPDIR/err"
     [ "$(tail -n 1 "$BATS_TEST_TMPDIR/err")" = 'recu: violations: 50' ]
+    grep -qx '49 of these stood before the edit' "$BATS_TEST_TMPDIR/err"
+    recu 1 recset -n 0 -f M -a y f
+    grep -qx 'line 4: N: x1 (int)' "$BATS_TEST_TMPDIR/err"
+    grep -qx 'line 43: N: x20 (int)' "$BATS_TEST_TMPDIR/err"
     grep -q '^all of these stood before the edit' "$BATS_TEST_TMPDIR/err"
     recu 1 recins -t P -f N -v y f
     grep -qx 'line 42: N: x20 (int), as before the edit' "$BATS_TEST_TMPDIR/err"
@@ -218,8 +226,11 @@ batch_told() {
 
 @test "which violations a batch leaves stood before it" {
     put f '%rec: P¶%mandatory: B¶%unique: A¶¶A: 1¶¶A: 2¶B: 1¶'
+    put changes 'Tool: recset¶Number: 0¶Fields: C¶Add: 3¶¶Tool: recset¶Number: 1¶Fields: A¶Add: 4¶'
+    explains '5: mandatory B¶8: unique A¶line 5: A: 1 (no B), as before the edit¶line 8: A: 2 (more than one A)¶1 of these stood before the edit¶f: --force makes the edit all the same' 'violations: 2' batch -b changes f
+    # the record is known by its first field, which is another one
     put changes 'Tool: recset¶Number: 0¶Fields: A¶Set: 3¶¶Tool: recset¶Number: 1¶Fields: A¶Add: 4¶'
-    explains '5: mandatory B¶7: unique A¶line 5: A: 3 (no B), as before the edit¶line 7: A: 2 (more than one A)¶1 of these stood before the edit¶f: --force makes the edit all the same' 'violations: 2' batch -b changes f
+    explains '5: mandatory B¶7: unique A¶line 5: A: 3 (no B)¶line 7: A: 2 (more than one A)¶f: --force makes the edit all the same' 'violations: 2' batch -b changes f
     put changes 'Tool: recins¶Type: P¶Field: A¶Value: 5¶¶Tool: recset¶Number: 1¶Fields: A¶Set: 4¶'
     explains '5: mandatory B¶10: mandatory B¶line 5: A: 1 (no B), as before the edit¶line 10: A: 5 (no B)¶1 of these stood before the edit¶f: --force makes the edit all the same' 'violations: 2' batch -b changes f
     put changes 'Tool: recdel¶Number: 0¶¶Tool: recset¶Number: 0¶Fields: B¶Delete: yes¶'
@@ -229,7 +240,11 @@ batch_told() {
 @test "an edit of a batch that lacks an automatic number" {
     put f '%rec: P¶%auto: Added¶%type: Added date¶'
     put changes 'Tool: recins¶Type: P¶Field: N¶Value: x¶'
-    explains 'changes:1: Tool: recins¶f: Added: %auto counts, so its type has to be int or range, and is date¶Field: Added and a Value give it, and Auto: no leaves it out' 'no automatic value' batch -b changes f
+    explains 'changes:1: Tool: recins¶f: Added: %auto counts, so its type has to be int or range, and %type says date¶give it a value, or Auto: no leaves it out' 'no automatic value' batch -b changes f
+    put f '%rec: P¶%auto: Id¶¶Id: 1¶'
+    put changes 'Tool: recset¶Type: P¶Fields: Id¶Set: 9223372036854775807¶¶Tool: recins¶Type: P¶Field: N¶Value: x¶'
+    explains 'changes:6: Tool: recins¶f: Id: there is no number after 9223372036854775807¶give it a value, or Auto: no leaves it out' 'no automatic value' batch -b changes f
+    put f '%rec: P¶%auto: Added¶%type: Added date¶'
     put changes 'Tool: recins¶Type: P¶Field: N¶Value: x¶Auto: no¶'
     does batch -b changes f
     has f '%rec: P¶%auto: Added¶%type: Added date¶¶N: x¶'
@@ -260,8 +275,24 @@ batch_told() {
     has seen ''
 }
 
+# hundred_kinds KIND: a hundred definitions, which lead from T0 to that kind
+hundred_kinds() {
+    local i
+    for i in {0..98}; do
+        printf '%%typedef: T%d T%d\n' "$i" $((i + 1))
+    done
+    printf '%%typedef: T99 %s\n' "$1"
+}
+
+@test "a kind that is defined over a hundred others" {
+    { bytes '%rec: P¶%type: N T0¶'; hundred_kinds int; bytes '¶N: 1¶'; } > f
+    explains '104: type N¶line 104: N: x (int)¶f: --force makes the edit all the same' 'violations: 1' recset -n 0 -f N -s x f
+    { bytes '%rec: P¶%auto: Id¶%type: Id T0¶'; hundred_kinds line; } > f
+    explains 'f: Id: %auto counts, so its type has to be int or range, and %type says T0¶give it a value, or --no-auto leaves it out' 'no automatic value' recins -t P -f N -v x f
+}
+
 @test "a CR or a form feed belongs to the word of a type" {
-    local undefined='f: Id: %auto counts, and the type of Id is not defined¶-f Id -v VALUE gives it, and --no-auto leaves it out'
+    local undefined='f: Id: %auto counts, and the type of Id is not defined¶give it a value, or --no-auto leaves it out'
     local kind
     for kind in 'int\x0D' 'int\x0Dx' '\x0Dint' 'int\x0C' 'int\x0Cx' 'range\x0D0 9'; do
         put f "%rec: P¶%auto: Id¶%type: Id $kind¶"
@@ -269,6 +300,29 @@ batch_told() {
         put f "%rec: P¶%auto: Id¶%typedef: T $kind¶%type: Id T¶"
         explains "$undefined" 'no automatic value' recins -t P -f N -v x f
     done
+}
+
+# says_only WHY WORD..: recu refuses, and says no line more
+says_only() {
+    refuses "$@"
+    prints '' "recu: $1¶"
+}
+
+@test "what lies past what can be shown" {
+    local blanks
+    blanks=$(printf '%1100s' '')
+    put f 'A: 1¶'
+    says_only 'expression: error at byte 1103' recsel -e "A =$blanks)" f
+    put f "%rec: P¶%constraint: A =$blanks)¶"
+    says_only 'line 2: bad descriptor field' recsel f
+    put f "A: 1¶x${blanks// /x}\\x0D¶"
+    says_only 'line 2: not a field, comment or blank line' recsel f
+}
+
+@test "a new record of a batch that has no fields" {
+    put f 'A: 1¶'
+    put b 'Tool: recins¶'
+    explains 'b:1: Tool: recins¶Field and Value, or Record, are needed' 'not exactly one record' batch -b b f
 }
 
 @test "standard input that is a terminal" {
@@ -293,12 +347,14 @@ batch_told() {
     fails_to_store "$empty" recset -f A -s 1 ''
     fails_to_store "$empty" recins -f A -v 1 ''
     fails_to_store "$empty" undo ''
-    fails_to_store "$empty" recset -f A -s 2 --journal '' f
-    fails_to_store "$empty" history --journal '' f
-    fails_to_store "$empty" redo --through 1 --journal '' f
+    fails_to_store 'an empty path' recset -f A -s 2 --journal '' f
+    fails_to_store 'an empty path' history --journal '' f
+    mkfifo pipe
+    fails_to_store 'an empty path' history --journal '' pipe
+    fails_to_store 'an empty path' redo --through 1 --journal '' f
     fails_to_store 'an empty path¶: No such file or directory (os error 2)' batch -b '' f
     has f 'A: 1¶'
-    only f
+    only f pipe
 }
 
 @test "a file that is missing" {
@@ -318,11 +374,13 @@ batch_told() {
 @test "standard input and pipes are not read again" {
     put f '%rec: P¶¶A: 1¶¶%rec: Q¶'
     input=f recu 1 recsel
-    prints '' 'recu: several record types, use -t¶'
-    recu 1 recsel <(cat f)
-    prints '' 'recu: several record types, use -t¶'
+    prints '' 'standard input: record types: P, Q¶recu: several record types, use -t¶'
+    mkfifo pipe
+    cat f > pipe &
+    recu 1 recsel pipe
+    prints '' 'pipe: record types: P, Q¶recu: several record types, use -t¶'
     recu 1 recsel -e 'A =' <(cat f)
-    prints '' 'A =¶   ^¶recu: expression: error at byte 3¶'
+    prints '' 'A =¶   ^¶the expression isn'"'"'t complete¶recu: expression: error at byte 3¶'
     # a line that is refused is told as it was read
     put f 'A: 1¶no field¶'
     input=f recu 1 recsel
@@ -349,6 +407,13 @@ reads_once() {
     put f '%rec: P¶%key: Id¶%key: No¶'
     reads_once f recsel f
     reads_once f recins -f A -v 2 f
+    put f '%rec: P¶¶A: 1¶¶%rec: Q¶'
+    reads_once f recsel f
+    reads_once f recinf -t R f
+    reads_once f recset -t R -f A -s 2 f
+    reads_once f recdel -t P f
+    put f '%rec: P¶%auto: Id¶%type: Id date¶'
+    reads_once f recins -t P -f N -v x f
     put f 'A: 1¶'
     put changes 'Tool: recset¶Fields: A¶'
     reads_once f batch -b changes f
@@ -359,6 +424,24 @@ reads_once() {
         reads_once "$file" revert 1 f
         reads_once "$file" revert 9 f
         reads_once "$file" show 9 f
+        reads_once "$file" redo f
+    done
+    # rules that an edit breaks, and a revert
+    put g '%rec: P¶%key: Id¶¶Id: 1¶'
+    does recset -t P -f Id -s 2 g
+    does recins -t P -f Id -v 1 g
+    put changes 'Tool: recset¶Number: 1¶Fields: Id¶Set: 2¶'
+    for file in g g.journal; do
+        reads_once "$file" recins -t P -f Id -v 1 g
+        reads_once "$file" batch -b changes g
+        reads_once "$file" recset -n 1 -f Id -s 2 --dry-run g
+        reads_once "$file" revert 1 g
+    done
+    # edits that were undone, and then dropped
+    does undo g
+    does recins -t P -f Id -v 3 g
+    for file in g g.journal; do
+        reads_once "$file" redo g
     done
 }
 

@@ -12,7 +12,7 @@ teardown() {
     mkdir d
     fails_to_store 'missing: No such file or directory (os error 2)' undo missing
     fails_to_store ': No such file or directory (os error 2)¶an empty path' recdel -n 0 ''
-    fails_to_store ': No such file or directory (os error 2)¶an empty path' recdel -n 0 --journal '' db.rec
+    fails_to_store 'an empty path' recdel -n 0 --journal '' db.rec
     fails_to_store 'd: not a regular file' recdel -n 0 d
     fails_to_store 'd: not a regular file' undo --journal d db.rec
     fails_to_store 'db.rec/x: Not a directory (os error 20)' undo db.rec/x

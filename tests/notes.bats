@@ -140,7 +140,7 @@ load helpers
     put g 'A: 1¶B: 1¶'
     does recset -f A -s 2 --journal j g
     recu 0 recset --dry-run -f A -s 2 --journal j f
-    prints '--- f¶+++ f¶@@ -1,1 +1,1 @@¶-A: 1¶+A: 2¶' "$said couldn't be undone any more¶"
+    prints '--- f¶+++ f¶@@ -1,1 +1,1 @@¶-A: 1¶+A: 2¶' "$said couldn't be undone any more¶j: it may be the journal of another file¶"
     recu 0 recset -f A -s 2 --journal j f
     prints '' "$said can't be undone any more¶j: it may be the journal of another file¶"
     # an earlier text of the file, and the journal beside it

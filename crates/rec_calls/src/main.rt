@@ -48,7 +48,8 @@ fn run(alloc: Global, log: &mut Log) {
         edits::an_edit_is_made,
         edits::a_batch_is_made,
         edits::a_batch_is_planned,
-        homes::a_call_of_a_home_fails);
+        homes::a_call_of_a_home_fails,
+        homes::an_answer_has_its_texts);
 }
 
 /// The first word of the command line, which is asked for again where memory ran out.

@@ -26,7 +26,7 @@ pub(crate) fn automatic_names(alloc: Global, rules: &Rules) -> Result<Vec<&[u8]>
     Vec::from_slice(alloc, names.as_slice())
 }
 
-fn begins_special(name: &[u8]) -> bool
+pub(crate) fn begins_special(name: &[u8]) -> bool
     ensures { result ≡ begins_special name.now }
 {
     match name {

@@ -54,6 +54,11 @@ impl Schema {
         &self.sets
     }
 
+    /// The rules of each set.
+    pub(crate) fn rules(&self) -> &[Rules] {
+        &self.rules
+    }
+
     /// The place of the set of a type among the sets.
     pub fn set_of_type(&self, record_type: &[u8]) -> Option<usize>
         ensures { result ≡ position (is_of_type record_type.now) (described self.now).sets }

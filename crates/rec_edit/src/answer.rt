@@ -16,7 +16,7 @@ pub struct Edited {
 /// Why edits are refused, and which of them is: none where the text after them all breaks rules.
 #[derive(Drop)]
 pub struct RefusedEdit {
-    pub fault: Fault,
+    pub fault: Refusal,
     pub index: Option<usize>,
 }
 
@@ -26,7 +26,7 @@ impl From<RefusedEdit> for Fault {
     ghost from_gives = { λ refused fault. fault ≡ refused.fault };
 
     fn from(refused: RefusedEdit) -> Fault {
-        refused.fault
+        Fault::from(refused.fault)
     }
 }
 
@@ -37,6 +37,6 @@ impl From<RefusedEdit> for Refusal {
 
     fn from(refused: RefusedEdit) -> Refusal {
         let RefusedEdit { fault, index } = refused;
-        Refusal::from(fault).of_edit(index)
+        fault.of_edit(index)
     }
 }

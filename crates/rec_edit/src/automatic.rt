@@ -13,7 +13,7 @@ mod numbered;
 use crate::automatic::numbered::{NumberedField, append_numbered, give};
 use crate::request::Pair;
 use rec_check::RecFile;
-use rec_text::{Bytes, Fault};
+use rec_text::{Bytes, Fault, Refusal};
 use std::alloc::Global;
 use std::collections::HashSet;
 
@@ -50,7 +50,7 @@ fn given_at<'s>(
     file: &'s RecFile<'_>,
     place: usize,
     pairs: &[Pair],
-) -> Result<Vec<NumberedField<'s>>, Fault>
+) -> Result<Vec<NumberedField<'s>>, Refusal>
     requires { place < length (described file.now.schema).sets }
     ensures given { IfOk result (λ given. AreLackingIn file.now place pairs.now (Ok (numbered given.items))) }
     ensures refused { IfErr result (λ fault. IsMemoryOr fault (AreLackingIn file.now place pairs.now (Err fault))) }
@@ -67,7 +67,7 @@ pub(crate) fn automatic_fields(
     record_type: &Option<Bytes>,
     auto: bool,
     pairs: &[Pair],
-) -> Result<Vec<u8>, Fault>
+) -> Result<Vec<u8>, Refusal>
     ensures found { IfOk result (λ text. IsAutomaticTextIn file.now record_type.now auto pairs.now text.items) }
     ensures refused { IfErr result (λ fault.
         IsMemoryOr fault (AreAutomaticIn file.now record_type.now auto pairs.now (Err fault))) }

@@ -18,12 +18,12 @@ use crate::outcome::{Patched, made};
 use crate::request::Edit;
 use crate::sound::{keep_rules, require_sound};
 use rec_check::RecFile;
-use rec_text::{Bytes, Fault};
+use rec_text::{Bytes, Fault, Refusal};
 use std::alloc::Global;
 use std::slice;
 
 /// What an edit makes of a text that is read for it. The edited text may break rules.
-fn made_on(alloc: Global, text: &[u8], edit: &Edit, force: bool) -> Result<Patched, Fault>
+fn made_on(alloc: Global, text: &[u8], edit: &Edit, force: bool) -> Result<Patched, Refusal>
     ensures { UnlessMemory result (IsEditOn force (task_of edit.now) text.now) }
 {
     let file = RecFile::read(alloc, text)?;
@@ -31,7 +31,12 @@ fn made_on(alloc: Global, text: &[u8], edit: &Edit, force: bool) -> Result<Patch
 }
 
 /// What the first of some edits makes of a file, which is let go here.
-fn first_made(alloc: Global, file: RecFile, edits: &[Edit], force: bool) -> Result<Progress, Fault>
+fn first_made(
+    alloc: Global,
+    file: RecFile,
+    edits: &[Edit],
+    force: bool,
+) -> Result<Progress, Refusal>
     ensures made { IfOk result (λ done.
         AreSteps force (take 1 (map task_of edits.now)) (text_of file.entry.pieces) (Ok done)) }
     ensures refused { IfErr result (λ fault.
@@ -47,7 +52,7 @@ fn first_made(alloc: Global, file: RecFile, edits: &[Edit], force: bool) -> Resu
 }
 
 /// One edit more.
-fn take_step(alloc: Global, edit: &Edit, force: bool, done: &mut Progress) -> Result<(), Fault>
+fn take_step(alloc: Global, edit: &Edit, force: bool, done: &mut Progress) -> Result<(), Refusal>
     ensures made { (tasks : List Task) (text : List ℕ) → AreSteps force tasks text (Ok done.old)
         → OnOk result (AreSteps force (tasks ++ task_of edit.now ∷ []) text (Ok done.new)) }
     ensures refused { IfErr result (λ fault.
@@ -114,11 +119,12 @@ fn outcome(alloc: Global, file: RecFile, edits: &[Edit], force: bool) -> Result<
     ensures refused { IfErr result (λ refused. IsMemoryOr refused.fault
         (AreRefusedAt force (map task_of edits.now) (text_of file.entry.pieces) refused.index refused.fault)) }
 {
+    let before = file.database().text();
     let is_sound = keep_rules(&file, edits, force);
     let made = all_made(alloc, file, edits, force)?;
     let text = made.text.as_slice();
     if !is_sound {
-        if let Err(fault) = require_sound(alloc, text) {
+        if let Err(fault) = require_sound(alloc, before, text) {
             return Err(RefusedEdit { fault, index: None });
         }
     }

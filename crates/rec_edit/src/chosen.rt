@@ -9,7 +9,7 @@ ghost use Rattle.rec_edit.specs.Outcome.{allowed};
 
 use rec_check::RecFile;
 use rec_select::{By, Selection, choose};
-use rec_text::Fault;
+use rec_text::{Fault, Reason, Refusal};
 use std::alloc::{AllocError, Global};
 use std::ops::Range;
 
@@ -35,7 +35,7 @@ pub(crate) fn chosen_records(
     alloc: Global,
     file: &RecFile,
     selection: &Selection,
-) -> Result<Vec<Range<usize>>, Fault>
+) -> Result<Vec<Range<usize>>, Refusal>
     ensures found { IfOk result (λ chosen. AreChosenIn file.now selection.now (Ok chosen.items)) }
     ensures refused { IfErr result (λ fault. IsMemoryOr fault (AreChosenIn file.now selection.now (Err fault))) }
     ensures ranges { IfOk result (λ chosen. AreRanges (length file.now.pieces) chosen.items) }
@@ -45,14 +45,17 @@ pub(crate) fn chosen_records(
     Ok(ranges_at(alloc, records.as_slice(), &selected)?)
 }
 
-/// Refuses to take records without a selection, unless that is forced.
-fn require_allowed(by: &By, force: bool) -> Result<(), Fault>
+/// Refuses to take this many records without a selection, unless that is forced.
+fn require_allowed(alloc: Global, by: &By, force: bool, count: usize) -> Result<(), Refusal>
     ensures { MatchResult result
         (λ _. allowed (filter_of by.now) force ≡ Ok tt)
         (λ fault. allowed (filter_of by.now) force ≡ Err fault) }
 {
     match by {
-        By::All if !force => Err(Fault::NoSelection),
+        By::All if !force => {
+            let reason = Some(Reason::All(count));
+            Err(Refusal::from(Fault::NoSelection).about(alloc, reason))
+        }
         _ => Ok(()),
     }
 }
@@ -63,13 +66,13 @@ pub(crate) fn removable_records(
     file: &RecFile,
     selection: &Selection,
     force: bool,
-) -> Result<Vec<Range<usize>>, Fault>
+) -> Result<Vec<Range<usize>>, Refusal>
     ensures found { IfOk result (λ chosen. AreRemovableIn file.now selection.now force (Ok chosen.items)) }
     ensures refused { IfErr result (λ fault.
         IsMemoryOr fault (AreRemovableIn file.now selection.now force (Err fault))) }
     ensures ranges { IfOk result (λ chosen. AreRanges (length file.now.pieces) chosen.items) }
 {
     let chosen = chosen_records(alloc, file, selection)?;
-    require_allowed(&selection.by, force)?;
+    require_allowed(alloc, &selection.by, force, chosen.len())?;
     Ok(chosen)
 }

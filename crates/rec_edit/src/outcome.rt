@@ -23,7 +23,7 @@ use crate::wording::items_for;
 use rec_check::RecFile;
 use rec_journal::Patch;
 use rec_select::Selection;
-use rec_text::{Bytes, Fault};
+use rec_text::{Bytes, Refusal};
 use std::alloc::{AllocError, Global};
 
 /// What an edit makes of a text: the text after it, the patch that leads there, how many records it changed, and how many were
@@ -43,7 +43,7 @@ fn insert(
     record_type: &Option<Bytes>,
     fresh: &NewRecord,
     auto: bool,
-) -> Result<Patched, Fault>
+) -> Result<Patched, Refusal>
     ensures { (force : Bool)
         → UnlessMemory result (IsCarriedOutIn file.now force
         (inserting_one record_type.now (fresh_by fresh.now) auto)) }
@@ -60,7 +60,7 @@ fn replace(
     file: &RecFile,
     selection: &Selection,
     fresh: &NewRecord,
-) -> Result<Patched, Fault>
+) -> Result<Patched, Refusal>
     ensures { (force : Bool)
         → UnlessMemory result (IsCarriedOutIn file.now force
         (replacing (wanted_by selection.now) (fresh_by fresh.now))) }
@@ -85,7 +85,7 @@ fn filled_up(alloc: Global, file: &RecFile, filled: &[FilledRecord]) -> Result<P
 }
 
 /// All records of typed sets get the automatic fields that they lack.
-fn auto_fill(alloc: Global, file: &RecFile) -> Result<Patched, Fault>
+fn auto_fill(alloc: Global, file: &RecFile) -> Result<Patched, Refusal>
     ensures { (force : Bool) → UnlessMemory result (IsCarriedOutIn file.now force filling_all) }
 {
     let filled = filled_records(alloc, file)?;
@@ -98,7 +98,7 @@ fn delete(
     file: &RecFile,
     selection: &Selection,
     force: bool,
-) -> Result<Patched, Fault>
+) -> Result<Patched, Refusal>
     ensures { UnlessMemory result (IsCarriedOutIn file.now force (deleting (wanted_by selection.now))) }
 {
     let chosen = removable_records(alloc, file, selection, force)?;
@@ -112,7 +112,7 @@ fn comment_out(
     file: &RecFile,
     selection: &Selection,
     force: bool,
-) -> Result<Patched, Fault>
+) -> Result<Patched, Refusal>
     ensures { UnlessMemory result (IsCarriedOutIn file.now force (commenting_out (wanted_by selection.now))) }
 {
     let chosen = removable_records(alloc, file, selection, force)?;
@@ -127,7 +127,7 @@ fn set(
     selection: &Selection,
     list: &[u8],
     action: &Action,
-) -> Result<Patched, Fault>
+) -> Result<Patched, Refusal>
     ensures { (force : Bool)
         → UnlessMemory result (IsCarriedOutIn file.now force
         (setting_fields (wanted_by selection.now) list.now action.now)) }
@@ -144,7 +144,7 @@ pub(crate) fn made(
     file: &RecFile,
     edit: &Edit,
     force: bool,
-) -> Result<Patched, Fault>
+) -> Result<Patched, Refusal>
     ensures { UnlessMemory result (IsCarriedOutIn file.now force (task_of edit.now)) }
 {
     match edit {

@@ -1,5 +1,6 @@
 //! The rules of the record sets of an edited text.
 ghost use Rattle.std.specs.Prelude.{◌≡◌, false, map, IsTrue, Ok};
+ghost use Rattle.rec_text.specs.declared.fault.Fault.TheVariants.{Integrity};
 ghost use Rattle.rec_text.specs.Elements.{text_of};
 ghost use Rattle.rec_text.specs.Faults.{UnlessMemory};
 ghost use Rattle.rec_edit.specs.declared.answer.Edited.{Edited};
@@ -8,8 +9,8 @@ ghost use Rattle.rec_edit.specs.Outcome.{IsSound, IsSoundUnlessForced, PutsNoDes
 ghost use Rattle.rec_edit.specs.Task.{task_of};
 
 use crate::request::Edit;
-use rec_check::RecFile;
-use rec_text::{Fault, Violations};
+use rec_check::{RecFile, report_of};
+use rec_text::{Fault, Reason, Refusal, Violation, Violations};
 use std::alloc::Global;
 
 /// Whether no descriptor is put in: only a new record of a type may bring one.
@@ -42,23 +43,32 @@ pub(crate) fn keep_rules(file: &RecFile, edits: &[Edit], force: bool) -> bool
     }
 }
 
-/// Refuses a file that breaks the rules of its record sets, with all its violations.
-pub fn require_rules(alloc: Global, file: &RecFile) -> Result<(), Fault>
+/// The refusal of a file with these violations, with what they are about, and which of them stood in the text before.
+fn broken(alloc: Global, before: &[u8], file: &RecFile, found: Vec<Violation>) -> Refusal
+    ensures { result ≡ Integrity found.items }
+{
+    let report = report_of(alloc, Some(before), file, &found);
+    let reason = report.map(|report| Reason::Report(report));
+    Refusal::from(Fault::Integrity(Violations::from_vec(found))).about(alloc, reason)
+}
+
+/// Refuses a file that breaks the rules of its record sets, with all its violations. It was made of the text before.
+pub fn require_rules(alloc: Global, before: &[u8], file: &RecFile) -> Result<(), Refusal>
     ensures { UnlessMemory result (IsSound (text_of file.now.pieces)) }
 {
     // These are the elements of a text.
     let _text = file.database().text();
     let found = file.schema().violations(alloc, file.database())?;
     if !found.is_empty() {
-        return Err(Fault::Integrity(Violations::from_vec(found)));
+        return Err(broken(alloc, before, file, found));
     }
     Ok(())
 }
 
 /// The same of a text that is read for it.
-pub(crate) fn require_sound(alloc: Global, text: &[u8]) -> Result<(), Fault>
+pub(crate) fn require_sound(alloc: Global, before: &[u8], text: &[u8]) -> Result<(), Refusal>
     ensures { UnlessMemory result (IsSound text.now) }
 {
     let file = RecFile::read(alloc, text)?;
-    require_rules(alloc, &file)
+    require_rules(alloc, before, &file)
 }

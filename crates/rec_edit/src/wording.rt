@@ -8,12 +8,13 @@ ghost use Rattle.rec_sex.specs.declared.lists.field_list.Item.{Item as ItemOf};
 ghost use Rattle.rec_edit.specs.Wording.{if_writable, unnumbered, names_of_action, values_of_action, AreItemsFor};
 
 use crate::request::Action;
+use rec_select::{fields_of, refused_text};
 use rec_sex::{FieldList, Item};
-use rec_text::{Fault, is_foldable, is_plain_name};
+use rec_text::{Asked, Fault, Reason, Refusal, is_foldable, is_plain_name, shown};
 use std::alloc::Global;
 
 /// Refuses the first subscript in the list of fields that are added.
-fn require_unnumbered(action: &Action, list: &[u8]) -> Result<(), Fault>
+fn require_unnumbered(alloc: Global, action: &Action, list: &[u8]) -> Result<(), Refusal>
     ensures { (items : List ItemOf) → MatchResult result
         (λ _. unnumbered action.now list.now items ≡ Ok items)
         (λ fault. unnumbered action.now list.now items ≡ Err fault) }
@@ -22,7 +23,10 @@ fn require_unnumbered(action: &Action, list: &[u8]) -> Result<(), Fault>
         return Ok(());
     };
     match list.iter().position(|byte| *byte == b'[') {
-        Some(at) => Err(Fault::BadFieldList { at }),
+        Some(at) => {
+            let fault = Fault::BadFieldList { at };
+            Err(refused_text(alloc, list, Asked::AddedFields, fault))
+        }
         None => Ok(()),
     }
 }
@@ -70,13 +74,56 @@ pub(crate) fn require_written(names_are_plain: bool, values_are_foldable: bool) 
     Ok(())
 }
 
+/// The refusal of a name that isn't written, or that of a field whose value isn't.
+pub(crate) fn refused_name(alloc: Global, name: Option<&[u8]>, fault: Fault) -> Refusal
+    ensures { result ≡ fault }
+{
+    Refusal::from(fault).about(alloc, reason_of(alloc, name))
+}
+
+fn reason_of(alloc: Global, name: Option<&[u8]>) -> Option<Reason> {
+    Some(Reason::Name(shown(alloc, name?)?))
+}
+
+/// The first name that isn't written, of items and of an action.
+fn bad_name<'i>(items: &'i [Item], action: &'i Action) -> Option<&'i [u8]> {
+    let item = items
+        .iter()
+        .find(|item| !is_plain_name(item.name.as_slice()));
+    match (item, action) {
+        (Some(item), _) => Some(item.name.as_slice()),
+        (None, Action::Rename(name)) => Some(name.as_slice()),
+        _ => None,
+    }
+}
+
+/// What the list of fields of an action is to be.
+fn asked_by(action: &Action) -> Asked {
+    match action {
+        Action::Add(_) => Asked::AddedFields,
+        _ => Asked::Fields,
+    }
+}
+
+/// The refusal of an action of which a name or the value isn't written.
+fn unwritten(alloc: Global, items: &[Item], action: &Action, fault: Fault) -> Refusal
+    ensures { result ≡ fault }
+{
+    match fault {
+        Fault::BadName => refused_name(alloc, bad_name(items, action), fault),
+        _ => Refusal::from(fault),
+    }
+}
+
 /// The items that an action works on. Its names and values must be those of fields that recu writes.
-pub(crate) fn items_for(alloc: Global, action: &Action, list: &[u8]) -> Result<FieldList, Fault>
+pub(crate) fn items_for(alloc: Global, action: &Action, list: &[u8]) -> Result<FieldList, Refusal>
     ensures { UnlessMemory result (AreItemsFor action.now list.now) }
 {
-    let items = FieldList::parse(alloc, list)?;
-    require_unnumbered(action, list)?;
+    let items = fields_of(alloc, list, asked_by(action))?;
+    require_unnumbered(alloc, action, list)?;
     let names_are_plain = items_have_plain_names(items.items()) && gives_plain_name(action);
-    require_written(names_are_plain, gives_foldable_value(action))?;
-    Ok(items)
+    match require_written(names_are_plain, gives_foldable_value(action)) {
+        Ok(()) => Ok(items),
+        Err(fault) => Err(unwritten(alloc, items.items(), action, fault)),
+    }
 }

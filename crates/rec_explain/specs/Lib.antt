@@ -1,4 +1,2 @@
 -- what an explanation is made of
 pub mod Lines
--- the edits of which it is said
-pub mod Later

@@ -6,7 +6,7 @@ use crate::batches::bad_edits::explain_bad_batch;
 use crate::explanation::Explanation;
 use crate::lines::places::elements_of;
 use crate::lines::shown::{show_line, without_cr};
-use crate::refusal::{explain_contents, explain_edit};
+use crate::refusal::{explain_edit, explain_reason};
 use rec_text::{first_line, read};
 use rec_tools::{Fault, Refusal, batch_edits};
 use std::alloc::Global;
@@ -30,7 +30,7 @@ pub fn explain_batch(
             show_edit(alloc, path, batch, index, said);
             explain_one(alloc, about, batch, index, refusal, said);
         }
-        _ => explain_contents(alloc, about, refusal, said),
+        _ => explain_reason(alloc, about, refusal, said),
     }
 }
 
@@ -44,7 +44,7 @@ fn show_edit(alloc: Global, path: &str, batch: &[u8], index: usize, said: &mut E
     }
 }
 
-/// Says what the refusal of the edit of an index is about. How many records there are then isn't known.
+/// Says what the refusal of the edit of an index is about.
 fn explain_one(
     alloc: Global,
     about: &About<'_>,
@@ -53,8 +53,7 @@ fn explain_one(
     refusal: &Refusal,
     said: &mut Explanation,
 ) {
-    if !matches!(refusal.fault(), Fault::NoSelection)
-        && let Ok(edits) = batch_edits(alloc, batch)
+    if let Ok(edits) = batch_edits(alloc, batch)
         && let Some(edit) = edits.get(index)
     {
         explain_edit(alloc, about, edit, refusal, said);

@@ -2,26 +2,27 @@
 use crate::about::About;
 use crate::explanation::Explanation;
 use crate::lines::shown::plain;
-use crate::undone::Undone;
 use itoa::Buffer;
 use rec_tools::Reply;
 
 /// Says how many edits can't be undone any more once this one is made, since the file was changed outside; and of a journal that
-/// was named, that it may be another file's.
+/// was named, that it may be another file's. The events are those of the journal with this edit.
 pub fn say_what_is_dropped(
     about: &About<'_>,
-    reply: &Reply,
+    reply: Reply,
+    events: &[u8],
     is_tried: bool,
     said: &mut Explanation,
 ) {
     let Reply::Edited { dropped, .. } = reply else {
         return;
     };
-    if *dropped == 0 {
+    if dropped == 0 {
         return;
     }
-    say_count(about.file, *dropped, is_tried, said);
-    if is_of_another_file(about) {
+    say_count(about.file, dropped, is_tried, said);
+    let is_named = about.journal.strip_suffix(".journal") != Some(about.path);
+    if is_named && begins_anew(events) {
         said.add(&[about.journal, ": it may be the journal of another file"]);
     }
 }
@@ -41,16 +42,7 @@ fn say_count(file: &str, dropped: usize, is_tried: bool, said: &mut Explanation)
     ]);
 }
 
-/// Whether a journal was named in which no event before the last one knows the text from which that one begins.
-fn is_of_another_file(about: &About<'_>) -> bool {
-    let is_named = about.journal.strip_suffix(".journal") != Some(about.path);
-    match about.events {
-        Some(events) if is_named => begins_anew(events),
-        _ => false,
-    }
-}
-
-/// Whether the digest with which the last event begins stands nowhere else.
+/// Whether no event before the last one knows the text from which that one begins: its digest stands nowhere else.
 fn begins_anew(events: &[u8]) -> bool {
     let mut last: &[u8] = &[];
     for line in events.split(|byte| *byte == b'\n') {
@@ -70,20 +62,11 @@ fn begins_anew(events: &[u8]) -> bool {
 }
 
 /// Says how many edits that were undone can't be redone any more once this one is made, if there are such.
-pub fn say_what_was_undone(
-    about: &About<'_>,
-    reply: &Reply,
-    is_tried: bool,
-    said: &mut Explanation,
-) {
+pub fn say_what_was_undone(reply: Reply, events: &[u8], is_tried: bool, said: &mut Explanation) {
     let (Reply::Edited { number, .. } | Reply::Reverted { number, .. }) = reply else {
         return;
     };
-    let count = if is_tried {
-        undone_in(about.history.unwrap_or(&[]))
-    } else {
-        dropped_by(*number, about.events.unwrap_or(&[]))
-    };
+    let count = dropped_by(number, events);
     if count == 0 {
         return;
     }
@@ -103,18 +86,33 @@ pub fn say_what_was_undone(
     ]);
 }
 
-/// How many edits are undone in a history as `history` prints it.
-fn undone_in(history: &[u8]) -> usize {
-    history
-        .split(|byte| *byte == b'\n')
-        .filter(|line| line.starts_with(b"undone "))
-        .count()
+/// How many undone edits the edit of a number dropped, by the events of a journal. In these the lines of a text begin with `+`,
+/// save its first, which stands after the name of a field.
+fn dropped_by(number: usize, events: &[u8]) -> usize {
+    let mut digits = Buffer::new();
+    let meant = digits.format(number).as_bytes();
+    let mut is_meant = false;
+    let mut undone: usize = 0;
+    for line in events.split(|byte| *byte == b'\n') {
+        if let Some(number) = line.strip_prefix(b"Number: ") {
+            is_meant = number == meant;
+        } else if let Some(kind) = line.strip_prefix(b"Kind: ") {
+            if is_meant {
+                return undone;
+            }
+            undone = undone_after(undone, kind);
+        }
+    }
+    0
 }
 
-/// How many undone edits the newest one dropped, which has this number.
-fn dropped_by(number: usize, events: &[u8]) -> usize {
-    match Undone::by_events(events) {
-        Undone::Dropped { count, by } if by == number => count,
-        _ => 0,
+/// How many edits are undone after an event of a kind, where this many were before it.
+fn undone_after(undone: usize, kind: &[u8]) -> usize {
+    if kind == b"undo".as_slice() {
+        undone.saturating_add(1)
+    } else if kind == b"redo".as_slice() {
+        undone.saturating_sub(1)
+    } else {
+        0
     }
 }

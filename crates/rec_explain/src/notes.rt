@@ -9,45 +9,84 @@ use crate::forced::say_what_is_broken;
 use crate::refusal::tried;
 use crate::unchanged::explain_unchanged;
 use rec_text::read;
-use rec_tools::{Ask, EditRequest, NewRecord, Pick, Reply, Request, Tool};
+use rec_tools::{Ask, EditRequest, NewRecord, Pick, Reply, Request, Response, Texts, Tool};
 use std::alloc::{AllocError, Global};
 use std::str;
 
 /// What is said of a command that succeeded: always that it ended the undo of earlier edits, where it did, and which rules an
-/// edit broke, where it was forced and so has a text; and on a terminal what it did, or why it changed nothing. Of a dry run it
-/// is said what it would do.
+/// edit broke, where it was forced; and on a terminal what it did, or why it changed nothing. Of a dry run it is said what it
+/// would do.
 pub fn explain_done(
     alloc: Global,
     about: &About<'_>,
     request: &Request,
-    reply: &Reply,
+    response: &Response,
     on_terminal: bool,
 ) -> Vec<u8>
     ensures shown { All IsShown result.items }
     ensures whole { AreLines result.items }
 {
     let mut said = Explanation::new(alloc);
+    let reply = response.reply();
     let is_tried = matches!(request, Request::Preview(_, _));
-    say_what_is_dropped(about, reply, is_tried, &mut said);
-    say_what_is_broken(alloc, about, request, reply, &mut said);
+    let events = events_of(response);
+    say_what_is_dropped(about, reply, events, is_tried, &mut said);
+    if is_forced(tried(request))
+        && let Some(texts) = response.texts()
+    {
+        say_what_is_broken(alloc, about.file, tried(request), texts, &mut said);
+    }
     if on_terminal && !is_of_several(request) {
-        say(
-            if is_tried {
-                would(alloc, reply)
-            } else {
-                done(alloc, reply)
-            },
-            &mut said,
-        );
-        if let Reply::Unchanged { chosen } = reply {
-            explain_unchanged(alloc, about, tried(request), *chosen, is_tried, &mut said);
-        }
-        if let (Request::Edit { edit, .. }, Reply::Edited { .. }) = (request, reply) {
-            say_what_may_surprise(alloc, edit, &mut said);
-        }
-        say_what_was_undone(about, reply, is_tried, &mut said);
+        say_what_came_of_it(alloc, about, request, response, &mut said);
+        say_what_was_undone(reply, events, is_tried, &mut said);
     }
     said.into_lines()
+}
+
+/// The events of the journal with the one that is added.
+fn events_of(response: &Response) -> &[u8] {
+    match response.texts() {
+        Some(
+            Texts {
+                journal: Some(journal),
+                ..
+            },
+        ) => journal.as_slice(),
+        _ => &[],
+    }
+}
+
+/// Whether a request may break rules of the file.
+fn is_forced(request: &Request) -> bool {
+    match request {
+        Request::Edit { force, .. }
+        | Request::Batch { force, .. }
+        | Request::Revert { force, .. } => *force,
+        _ => false,
+    }
+}
+
+/// Says what a command did, or would do, or why it changed nothing.
+fn say_what_came_of_it(
+    alloc: Global,
+    about: &About<'_>,
+    request: &Request,
+    response: &Response,
+    said: &mut Explanation,
+) {
+    match (request, response.reply()) {
+        (Request::Preview(tried, _), Reply::Unchanged { chosen }) => {
+            explain_unchanged(alloc, about, tried, response.texts(), chosen, true, said);
+        }
+        (_, Reply::Unchanged { chosen }) => {
+            explain_unchanged(alloc, about, request, response.texts(), chosen, false, said);
+        }
+        (Request::Preview(_, _), reply) => say(would(alloc, &reply), said),
+        (_, reply) => say(done(alloc, &reply), said),
+    }
+    if let (Request::Edit { edit, .. }, Reply::Edited { .. }) = (request, response.reply()) {
+        say_what_may_surprise(alloc, edit, said);
+    }
 }
 
 /// Whether `explain_through` says what was done, or a dry run prints each of several moves.
@@ -167,7 +206,7 @@ fn edits(count: usize) -> &'static str {
     if count == 1 { "edit" } else { "edits" }
 }
 
-fn records(count: usize) -> &'static str {
+pub fn records(count: usize) -> &'static str {
     if count == 1 { "record" } else { "records" }
 }
 

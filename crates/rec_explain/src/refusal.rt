@@ -6,23 +6,23 @@ use crate::about::About;
 use crate::batches::explain_batch;
 use crate::counters::explain_counter;
 use crate::descriptors::fields::explain_field;
+use crate::descriptors::rules::rule_of;
 use crate::edit_numbers::explain_numbers;
 use crate::explanation::Explanation;
 use crate::files::{explain_drift, explain_history, explain_unread};
 use crate::lines::bad_lines::{explain_bad_line, explain_open_line};
 use crate::lines::line_endings::called;
-use crate::reports::violations::explain_violations;
-use crate::requests::names::{explain_name, explain_record};
+use crate::obstacles::explain_obstacle;
+use crate::reports::explain_violations;
+use crate::requests::names::explain_name;
 use crate::requests::types::{explain_deletion, explain_types};
-use crate::requests::words::Words;
-use crate::reverts::obstacles::explain_obstacle;
+use crate::requests::words::explain_text;
 use crate::undone::explain_redo;
-use rec_text::Reason;
+use rec_text::{Broken, Reason};
 use rec_tools::{EditRequest, Fault, Refusal, Request};
 use std::alloc::Global;
 
-/// What a refusal is about, and what can be done: lines, each with its newline. Where the file can't be read again, or memory
-/// runs out, less is said.
+/// What a refusal is about, and what can be done: lines, each with its newline. Where memory runs out, less is said.
 pub fn explain(alloc: Global, about: &About<'_>, request: &Request, refusal: &Refusal) -> Vec<u8>
     ensures shown { All IsShown result.items }
     ensures whole { AreLines result.items }
@@ -64,15 +64,16 @@ fn explain_fault(
 ) {
     match (refusal.fault(), request) {
         (Fault::Integrity(violations), _) => {
-            explain_violations(alloc, about, request, violations.as_slice(), said);
+            let (violations, reason) = (violations.as_slice(), refusal.reason());
+            explain_violations(alloc, about, request, violations, reason, said);
         }
         (Fault::StoreFailed, _) => explain_unread(about, request, said),
-        (Fault::NothingToRedo, _) => explain_redo(alloc, about, said),
+        (Fault::NothingToRedo, _) => explain_redo(about, refusal.reason(), said),
         (_, Request::Edit { edit, .. }) => explain_edit(alloc, about, edit, refusal, said),
         (_, Request::Batch { text, .. }) => {
             explain_batch(alloc, about, text.as_slice(), refusal, said);
         }
-        _ => explain_words(alloc, about, Words::of(request), refusal, said),
+        _ => explain_reason(alloc, about, refusal, said),
     }
 }
 
@@ -84,44 +85,33 @@ pub(crate) fn explain_edit(
     refusal: &Refusal,
     said: &mut Explanation,
 ) {
-    let words = Words::of_edit(edit);
-    match refusal.fault() {
-        Fault::NoSelection => explain_deletion(alloc, about, edit, said),
-        Fault::AutoImpossible => explain_counter(alloc, about, edit, said),
-        Fault::BadName if !words.has_bad_name(alloc) => explain_name(alloc, edit, said),
-        Fault::BadRecord => explain_record(edit, said),
-        _ => explain_words(alloc, about, words, refusal, said),
-    }
-}
-
-/// Says what a refusal is about that may be one of these texts.
-fn explain_words(
-    alloc: Global,
-    about: &About<'_>,
-    words: Words<'_>,
-    refusal: &Refusal,
-    said: &mut Explanation,
-) {
-    match refusal.fault() {
-        Fault::TypeNeeded | Fault::NoSuchType => explain_types(alloc, about, said),
-        Fault::BadPattern if refusal.reason().is_none() => words.explain_pattern(alloc, said),
-        Fault::BadExpression { .. }
-        | Fault::BadFieldList { .. }
-        | Fault::BadIndexList { .. }
-        | Fault::BadName => words.explain_place(alloc, refusal.fault(), said),
-        _ => explain_contents(alloc, about, refusal, said),
-    }
-}
-
-/// Says what in the file or its journal a refusal is about.
-pub(crate) fn explain_contents(
-    alloc: Global,
-    about: &About<'_>,
-    refusal: &Refusal,
-    said: &mut Explanation,
-) {
-    let file = called(about.file);
     match (refusal.fault(), refusal.reason()) {
+        (_, Some(Reason::All(count))) => {
+            explain_deletion(called(about.file), edit, *count, said);
+        }
+        (_, Some(Reason::Counter { name, why })) => {
+            explain_counter(about, edit, name.as_slice(), why, said);
+        }
+        _ => explain_reason(alloc, about, refusal, said),
+    }
+}
+
+/// Says what in a request or a file a refusal is about.
+pub(crate) fn explain_reason(
+    alloc: Global,
+    about: &About<'_>,
+    refusal: &Refusal,
+    said: &mut Explanation,
+) {
+    let (file, fault) = (called(about.file), refusal.fault());
+    match (fault, refusal.reason()) {
+        (_, Some(Reason::Types(types))) => explain_types(alloc, file, types, said),
+        (_, Some(Reason::Text(text))) => explain_text(alloc, text, said),
+        (_, Some(Reason::Name(name))) => explain_name(name.as_slice(), fault, said),
+        (_, Some(Reason::NoFields)) => said.add(&[needed(about)]),
+        (_, Some(Reason::NotOneRecord)) => {
+            said.add(&["the text has to be one record, as it stands in a file"]);
+        }
         (Fault::BadLine { line }, Some(Reason::Line(shown))) => {
             explain_bad_line(file, *line, shown.as_slice(), said);
         }
@@ -129,6 +119,15 @@ pub(crate) fn explain_contents(
             explain_open_line(file, *line, shown.as_slice(), said);
         }
         (_, Some(Reason::Field(field))) => explain_field(alloc, file, field, said),
-        (fault, _) => explain_history(about, fault, said),
+        (Fault::BadPattern, None) => said.add(&[rule_of(Broken::Pattern)]),
+        _ => explain_history(about, fault, said),
+    }
+}
+
+/// What a new record needs: in a batch fields, else options.
+fn needed(about: &About<'_>) -> &'static str {
+    match about.batch {
+        Some(_) => "Field and Value, or Record, are needed",
+        None => "-f and -v, or -r, are needed",
     }
 }

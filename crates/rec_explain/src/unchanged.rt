@@ -5,10 +5,9 @@ use crate::about::About;
 use crate::explanation::Explanation;
 use crate::lines::places::{field_of, within};
 use crate::lines::shown::plain;
-use crate::requests::types::meant_set;
 use crate::unchanged::names::{names_in_list, names_of};
 use rec_check::{RecFile, Set_};
-use rec_tools::{Action, Ask, Bytes, EditRequest, Pick, Request, make};
+use rec_tools::{Action, Ask, Bytes, EditRequest, Pick, Request, Texts, make};
 use std::alloc::{AllocError, Global};
 use std::slice;
 
@@ -17,6 +16,7 @@ pub fn explain_unchanged(
     alloc: Global,
     about: &About<'_>,
     request: &Request,
+    texts: Option<&Texts>,
     chosen: Option<usize>,
     is_tried: bool,
     said: &mut Explanation,
@@ -28,8 +28,8 @@ pub fn explain_unchanged(
     };
     said.add(&[plain(about.file.as_bytes()).unwrap_or("the file"), nothing]);
     if let Request::Edit { edit, .. } = request
-        && let Some(text) = about.text
-        && let Ok(file) = RecFile::read(alloc, text)
+        && let Some(texts) = texts
+        && let Ok(file) = RecFile::read(alloc, texts.file.as_slice())
     {
         explain_fields(alloc, about.file, file, edit, chosen, said);
     }
@@ -97,6 +97,19 @@ fn say_lacking(
         && let Ok(names) = names_in_list(alloc, list.as_slice())
     {
         say_each(path, file, set, &names, said);
+    }
+}
+
+/// The set that is meant: that of a type, or the first that isn't empty.
+fn meant_set<'f>(file: &'f RecFile<'_>, pick: &Pick) -> Option<&'f Set_> {
+    file.schema().sets().iter().find(|set| is_meant(set, pick))
+}
+
+fn is_meant(set: &Set_, pick: &Pick) -> bool {
+    match (&pick.kind, &set.kind) {
+        (None, _) => set.members.start < set.members.end,
+        (Some(kind), Some(own)) => own.as_slice() == kind.as_slice(),
+        (Some(_), None) => false,
     }
 }
 

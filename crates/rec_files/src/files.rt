@@ -10,7 +10,6 @@ ghost use Rattle.rec_disk.specs.Disk.{Told, IsMemory};
 ghost use Rattle.rec_disk.specs.Lasting.{shown};
 ghost use Rattle.rec_tools.specs.Home.{got, unread};
 ghost use Rattle.rec_files.specs.OnDisk.{or_empty, contents_on, places_by, IsReadOf};
-ghost use Rattle.rec_files.specs.Endings.{IsFirstEnding};
 ghost use Rattle.rec_files.specs.Paths.{path_of};
 ghost use Rattle.rec_files.specs.Succeeding.{HomeGoes, IsTold, IsShort, IsThere, IsReadable, IsShut, NotesRead, kept};
 ghost use Rattle.rec_files.specs.Succeeding.{IsRegularAt, ReadsRegular, FailedForMemory, HadAll, GoesOn, IsLastOf};
@@ -20,19 +19,17 @@ ghost use Rattle.rec_files.specs.proving.Succeeding.{Succeeds, IsOwnJournal};
 use crate::access::Access;
 use crate::ahead::Ahead;
 use crate::both::Both;
-use crate::endings::first_ending;
 use crate::failure::{Cause, Failure, not_regular, one_file};
 use crate::last_put::LastPut;
 use crate::reading::{read_rest, read_whole};
 use crate::replacing::Paths;
 use crate::target::may_be_missing;
-use rec_disk::{Disk, Escaped, HostDisk, folder_of};
+use rec_disk::{Disk, Escaped, folder_of};
 use rec_tools::{Bytes, Fault, Home, Which};
 use std::alloc::Global;
 use std::fs::File;
 use std::io;
 use std::io::{Error, ErrorKind};
-use std::rt::Files;
 
 /// A file and its journal on a disk. The last failure is kept, for `explain`.
 #[derive(Drop)]
@@ -51,8 +48,6 @@ pub struct DiskHome<'r, R, D: Disk + Drop> {
     last: LastPut,
     failed: u64,
     failure: Option<Failure>,
-    /// The first line of standard input that ends in CR LF, as it was read.
-    ending: Option<usize>,
 }
 
 impl<'r, R: Input + AllocGlobal, D: Disk + Drop> DiskHome<'r, R, D> {
@@ -86,7 +81,6 @@ impl<'r, R: Input + AllocGlobal, D: Disk + Drop> DiskHome<'r, R, D> {
             last: LastPut::Nothing,
             failed: 0,
             failure: None,
-            ending: None,
         }
     }
 
@@ -177,13 +171,6 @@ impl<'r, R: Input + AllocGlobal, D: Disk + Drop> DiskHome<'r, R, D> {
         }
     }
 
-    /// The first line of standard input that ends in CR LF, counted from 1, where that was read instead of a file.
-    pub fn ending_of_input(&self) -> Option<usize>
-        ensures ending { result ≡ self.now.ending }
-    {
-        self.ending
-    }
-
     fn fail(&mut self, failure: Failure) -> Fault
         ensures fault { result ≡ Fault.StoreFailed }
         ensures counted { self.old.failed ≤ self.new.failed }
@@ -254,13 +241,9 @@ impl<'r, R: Input + AllocGlobal, D: Disk + Drop> DiskHome<'r, R, D> {
         ensures noted { self.old.access ≡ Access.Change → IfOk result (λ bytes. NotesRead D.leads D.regular
             (kept D.number D.tells self.old) (kept D.number D.tells self.new) (D.story self.old.disk)
             (got which bytes.items)) }
-        ensures ending { which ≡ Which.Base → IsNone self.old.file
-            → IfOk result (λ bytes. IsFirstEnding bytes.items self.new.ending) }
     {
         if which == Which::Base && self.file.is_none() {
-            let bytes = read_rest(which, Vec::new(alloc), self.rt.reader())?;
-            self.ending = first_ending(bytes.as_slice());
-            return Ok(bytes);
+            return read_rest(which, Vec::new(alloc), self.rt.reader());
         }
         let path = path_in(&self.file, &self.journal, which);
         match self.access {
@@ -274,18 +257,6 @@ impl<'r, R: Input + AllocGlobal, D: Disk + Drop> DiskHome<'r, R, D> {
                 self.both.read(&mut disk.disk, alloc, which, path)
             }
         }
-    }
-}
-
-impl<'r, R: Files<File = File> + Input + AllocGlobal + Copy> DiskHome<'r, R, HostDisk<R>> {
-    /// The bytes of the file as they are now, read without a lock to explain a refusal. What is no regular file, as
-    /// standard input, can't be read again.
-    pub fn text_again(&self, alloc: Global) -> Option<Vec<u8>>
-        ensures once { IsNone self.now.file → IsNone result }
-    {
-        let path = self.file.as_ref()?.as_str();
-        let mut disk = HostDisk::new(*self.rt);
-        look_at(&mut disk, alloc, Which::Base, path, &self.file, true).ok()
     }
 }
 

@@ -13,7 +13,7 @@ ghost use Rattle.rec_files.specs.OnDisk.{AreRequestsAt};
 use crate::files::DiskHome;
 use rec_disk::Disk;
 use rec_tools::{
-    DiffStyle, Direction, Fault, Refusal, Reply, Request, Sink, Through, stops_are_steps,
+    DiffStyle, Direction, Fault, Refusal, Request, Response, Sink, Through, stops_are_steps,
 };
 use std::alloc::Global;
 
@@ -23,7 +23,7 @@ pub fn run<'r, R: Input + AllocGlobal, D: Disk + Drop, S: Sink>(
     home: &mut DiskHome<'r, R, D>,
     out: &mut S,
     request: &Request,
-) -> Result<Reply, Refusal>
+) -> Result<Response, Refusal>
     // Its calls, what went out, and that both and the answer are what the request comes to.
     ensures attempts { (calls : List Call) × (p : Printed) × WentOut S.contents S.failure_count out.old out.new p
         × Attempts (HomeGoes D.place D.leads D.link D.folder D.syncs D.regular D.number D.tells D.story D.works)

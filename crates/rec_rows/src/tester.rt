@@ -3,6 +3,7 @@ use crate::log::Log;
 use crate::narrow::Narrow;
 use rec_tools::{
     Bytes, Fault, Home, MemoryHome, Output, Refusal, Reply, Request, Sink, run, run_all,
+    without_texts,
 };
 use std::alloc::{AllocError, Global};
 
@@ -116,6 +117,7 @@ impl Tester {
     fn answer_in(&mut self, request: &Request, room: usize) -> Result<(), AllocError> {
         self.clear(room);
         let answer = run(self.alloc, &mut self.home, &mut self.out, request);
+        let answer = without_texts(answer);
         say(&mut self.said, &answer)
     }
 

@@ -12,8 +12,9 @@ ghost use Rattle.rec_select.specs.Selection.{Answers, AreSelected, IsChoice, has
 use crate::excerpt::Excerpt;
 use crate::filter::Filter;
 use crate::selection::Selection;
+use crate::telling::refused_set;
 use rec_check::{RecFile, Schema, Set_};
-use rec_text::{Bytes, Fault};
+use rec_text::{Bytes, Fault, Refusal};
 use std::alloc::Global;
 
 fn has_records(set: &Set_) -> bool
@@ -45,13 +46,21 @@ fn typed_set<'s>(schema: &'s Schema, record_type: &[u8]) -> Result<&'s Set_, Fau
 }
 
 /// The set that is selected from.
-fn set_of<'s>(schema: &'s Schema, record_type: &Option<Bytes>) -> Result<&'s Set_, Fault>
+fn set_of<'s>(
+    alloc: Global,
+    schema: &'s Schema,
+    record_type: &Option<Bytes>,
+) -> Result<&'s Set_, Refusal>
     ensures set { Answers (λ set. set.now) result (set_for record_type.now (described schema.now).sets) }
     ensures refusals { IsOkUnlessEither result Fault.TypeNeeded Fault.NoSuchType }
 {
-    match record_type {
+    let found = match record_type {
         Some(record_type) => typed_set(schema, record_type.as_slice()),
         None => meant_set(schema.sets()),
+    };
+    match found {
+        Ok(set) => Ok(set),
+        Err(fault) => Err(refused_set(alloc, schema, fault)),
     }
 }
 
@@ -85,7 +94,7 @@ fn add_members(
 }
 
 /// The records that a selection takes, as ascending indexes into the list of records. A descriptor is never taken.
-pub fn choose(alloc: Global, file: &RecFile, selection: &Selection) -> Result<Vec<usize>, Fault>
+pub fn choose(alloc: Global, file: &RecFile, selection: &Selection) -> Result<Vec<usize>, Refusal>
     ensures selected { IfOk result (λ selected.
         IsChoice file.now.pieces file.now.schema selection.now (Ok selected.items)) }
     ensures indexes { IfOk result (λ selected. AreIndexes file.now.pieces selected.items) }
@@ -97,7 +106,7 @@ pub fn choose(alloc: Global, file: &RecFile, selection: &Selection) -> Result<Ve
     ensures only { (other : Result (List ℕ) Fault) → IsChoice file.now.pieces file.now.schema selection.now other
         → MatchResult result (λ selected. other ≡ Ok selected.items) (λ fault. IsMemoryOr fault (other ≡ Err fault)) }
 {
-    let set = set_of(file.schema(), &selection.kind)?;
+    let set = set_of(alloc, file.schema(), &selection.kind)?;
     let mut filter = Filter::of(alloc, &selection.by)?;
     let mut selected = Vec::new(alloc);
     add_members(alloc, file, set, &mut filter, &mut selected)?;

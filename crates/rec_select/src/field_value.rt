@@ -36,7 +36,7 @@ fn word_len(text: &[u8]) -> usize
 }
 
 /// How many bytes at the start of a text are a name.
-fn name_len(text: &[u8]) -> usize
+pub(crate) fn name_len(text: &[u8]) -> usize
     ensures len { result ≡ name_len text.now }
     ensures within { result ≤ length text.now }
 {

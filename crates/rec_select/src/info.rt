@@ -15,9 +15,11 @@ ghost use Rattle.rec_select.specs.Taken.{Prints, PrintsAndCounts, Puts};
 
 use crate::excerpt::Excerpt;
 use crate::parts::put_parts;
+use crate::telling::refused_set;
 use itoa::Buffer;
 use rec_check::{RecFile, Schema, Set_};
-use rec_text::{Database, Fault, Sink, put_all};
+use rec_text::{Database, Fault, Refusal, Sink, put_all};
+use std::alloc::Global;
 use std::slice;
 
 /// What is printed of each set.
@@ -32,7 +34,11 @@ pub enum InfoForm {
 }
 
 /// All sets, or that of a type.
-fn sets_for<'s>(schema: &'s Schema, record_type: Option<&[u8]>) -> Result<&'s [Set_], Fault>
+fn sets_for<'s>(
+    alloc: Global,
+    schema: &'s Schema,
+    record_type: Option<&[u8]>,
+) -> Result<&'s [Set_], Refusal>
     ensures { Answers (λ kept. kept.now) result
         (sets_for (option_map (λ record_type. record_type.now) record_type.entry) (described schema.now).sets) }
 {
@@ -41,7 +47,7 @@ fn sets_for<'s>(schema: &'s Schema, record_type: Option<&[u8]>) -> Result<&'s [S
     };
     match schema.set_of_type(record_type) {
         Some(place) => Ok(slice::from_ref(&schema.sets()[place])),
-        None => Err(Fault::NoSuchType),
+        None => Err(refused_set(alloc, schema, Fault::NoSuchType)),
     }
 }
 
@@ -144,16 +150,17 @@ fn write_sets<S: Sink>(
 
 /// Prints what sets there are, or what the set of a type is.
 pub fn write_info<S: Sink>(
+    alloc: Global,
     file: &RecFile,
     record_type: Option<&[u8]>,
     form: InfoForm,
     out: &mut S,
-) -> Result<(), Fault>
+) -> Result<(), Refusal>
     ensures written { PrintsAndCounts S.contents S.failure_count out.old out.new
         (Puts (IsInfo file.now.pieces (described file.now.schema).sets
         (option_map (λ record_type. record_type.now) record_type.entry) form)) result }
     ensures refusals { IsOkUnlessEither result Fault.NoSuchType Fault.StoreFailed }
 {
-    let sets = sets_for(file.schema(), record_type)?;
-    write_sets(file.database(), sets, form, out)
+    let sets = sets_for(alloc, file.schema(), record_type)?;
+    Ok(write_sets(file.database(), sets, form, out)?)
 }

@@ -13,6 +13,7 @@ mod parts;
 mod records;
 mod report;
 mod selection;
+mod telling;
 
 pub use chooser::choose;
 pub use field_value::FieldValue;
@@ -25,3 +26,4 @@ pub use rec_text::{Bytes, Fault, Sink};
 pub use records::{Shape, write_records};
 pub use report::write_report;
 pub use selection::{By, Selection};
+pub use telling::{fields_of, refused_text};

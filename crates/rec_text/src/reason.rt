@@ -1,4 +1,7 @@
 //! What a refusal is about.
+ghost use Rattle.std.specs.Prelude.{◌≡◌, ◌+◌, take, IfSome};
+ghost use Rattle.rec_text.specs.Lines.{first_line as line_at_start};
+
 use crate::bytes::Bytes;
 use crate::reading::lines::{first_line, from_line};
 use std::alloc::Global;
@@ -30,8 +33,8 @@ pub enum Reason {
     Types(Vec<Bytes>),
     /// The automatic field of this name gets no number.
     Counter { name: Bytes, why: Uncounted },
-    /// The text that would break rules, and the one before the edit.
-    Texts { before: Option<Bytes>, after: Bytes },
+    /// The rules that a text would break.
+    Report(Report),
     /// The numbers of the edits that can be named.
     Edits(Vec<Run>),
     /// What became of the edits that were undone, where none is left.
@@ -187,6 +190,48 @@ pub enum Uncounted {
     End,
 }
 
+/// What violations of a text are about: each of the first ones, and how many of all stood in the text before an edit.
+#[derive(Drop)]
+pub struct Report {
+    pub offences: Vec<Offence>,
+    pub stood: usize,
+}
+
+/// What a violation is about.
+#[derive(Drop)]
+pub struct Offence {
+    /// The first line of the field by which its record is known: that of the key, or else the first.
+    pub record: Bytes,
+    /// The first line of the field that breaks the rule, where that is one.
+    pub field: Option<Bytes>,
+    pub finding: Finding,
+    /// Whether it stood in the text before an edit.
+    pub stood: bool,
+}
+
+/// What a violation finds.
+#[derive(Drop)]
+pub enum Finding {
+    /// The value isn't of this type.
+    Type(Bytes),
+    /// This constraint doesn't hold.
+    Constraint(Bytes),
+    /// The set has this many records, and is to have others.
+    Size { count: usize, wanted: Bytes },
+    /// Nothing defines the kind.
+    Undefined,
+    /// The definition of the kind comes to none that recu knows.
+    Kindless,
+    Prohibited,
+    NotAllowed,
+    /// There is no field of the name.
+    Missing,
+    /// There is more than one field of the name.
+    Several,
+    /// The value stands in an earlier record too, which begins in this line.
+    Taken(usize),
+}
+
 /// Numbers that follow one another.
 #[derive(Clone, Copy)]
 pub struct Run {
@@ -231,12 +276,16 @@ impl Reason {
 }
 
 /// A copy of the first line of a text, or of as much of it as tells that it is too long to be shown.
-pub fn shown_line(alloc: Global, text: &[u8]) -> Option<Bytes> {
+pub fn shown_line(alloc: Global, text: &[u8]) -> Option<Bytes>
+    ensures { IfSome result (λ copy. copy ≡ take (SHOWN + 1) (line_at_start text.now)) }
+{
     shown(alloc, first_line(text))
 }
 
 /// A copy of a word, or of as much of it as tells that it is too long to be shown.
-pub fn shown(alloc: Global, word: &[u8]) -> Option<Bytes> {
+pub fn shown(alloc: Global, word: &[u8]) -> Option<Bytes>
+    ensures { IfSome result (λ copy. copy ≡ take (SHOWN + 1) word.now) }
+{
     let start = word.get(..SHOWN + 1).unwrap_or(word);
     Bytes::copy_of(alloc, start).ok()
 }

@@ -15,7 +15,7 @@ use crate::editing::make;
 use crate::history::history_of;
 use crate::request::{EditRequest, Reply, Request};
 use crate::reverting::reverted;
-use crate::telling::refused_on;
+use crate::telling::{refused_move, refused_on};
 use rec_check::RecFile;
 use rec_edit::Edited;
 use rec_journal::{
@@ -247,13 +247,13 @@ fn decide_move(
     ensures refusals { IfErr result IsRefusal }
 {
     let history = history_of(alloc, file, journal)?;
-    let way = Some(direction);
     if history.lacks(direction, through) {
-        return Err(refused_on(alloc, &history, way, Fault::NoSuchEdit));
+        let fault = Fault::NoSuchEdit;
+        return Err(refused_move(alloc, &history, journal, direction, fault));
     }
     let moved = match plan_move(alloc, direction, &history, file, journal) {
         Ok(moved) => moved,
-        Err(fault) => return Err(refused_on(alloc, &history, way, fault)),
+        Err(fault) => return Err(refused_move(alloc, &history, journal, direction, fault)),
     };
     let MovePlan { plan, number, tool } = moved;
     let reply = reply_of(direction, number, tool);

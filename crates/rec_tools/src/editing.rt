@@ -15,11 +15,11 @@ ghost use Rattle.rec_tools.specs.Making.{AreMade, HasNoTaskAt, AreRefusedSo};
 use crate::request::EditRequest;
 use crate::selecting::selection_of;
 use rec_edit::{Edit, Edited, RecFile, RefusedEdit, edited};
-use rec_text::Fault;
+use rec_text::{Fault, Refusal};
 use std::alloc::Global;
 
 /// The edit that is asked for, which borrows its texts. Refused where the records that are picked can't be told.
-fn edit_of(alloc: Global, request: &EditRequest) -> Result<Edit<'_>, Fault>
+fn edit_of(alloc: Global, request: &EditRequest) -> Result<Edit<'_>, Refusal>
     ensures found { IfOk result (λ edit. IsTaskOf request.now (Ok (task_of edit))) }
     ensures refused { IfErr result (λ fault. IsMemoryOr fault (IsTaskOf request.now (Err fault))) }
     ensures refusals { IfErr result IsRefusal }
@@ -57,7 +57,7 @@ fn edits_of(alloc: Global, requests: &[EditRequest]) -> Result<Vec<Edit<'_>>, Re
 {
     let Ok(mut edits) = Vec::with_capacity(alloc, requests.len()) else {
         return Err(RefusedEdit {
-            fault: Fault::OutOfMemory,
+            fault: Refusal::from(Fault::OutOfMemory),
             index: None,
         });
     };

@@ -1,5 +1,5 @@
 //! What keeps an edit from being taken back alone.
-ghost use Rattle.std.specs.Prelude.{◌≡◌, ◌∷◌, IfOk};
+ghost use Rattle.std.specs.Prelude.{◌≡◌, ◌∷◌, ◌&&◌, IfOk, filter, nat_lt, slice_get};
 ghost use Rattle.rec_journal.specs.Revisions.{step_lists};
 ghost use Rattle.rec_tools.specs.proving.Reverting.{StandsBefore};
 
@@ -8,7 +8,7 @@ mod places;
 
 use deeds::{Deed, deeds_of, newest_at, newest_standing, places_after};
 use places::{lines_at, paragraphs_at};
-use rec_journal::{EditStep, History, StandingEdit, Step};
+use rec_journal::{EditStep, History, StandingEdit, Step, Steps};
 use rec_text::{Bytes, Fault, Obstacle};
 use std::alloc::{AllocError, Global};
 use std::ops::Range;
@@ -38,7 +38,7 @@ pub fn obstacle_of(
         Place::Later(place) => edit_at(alloc, history, number, place),
         Place::TakenBack(None) => Some(Obstacle::TakenBack(None)),
         Place::TakenBack(Some(place)) => {
-            let by = later_at(history, number, place);
+            let by = later_at(history.steps(), number, place);
             Some(Obstacle::TakenBack(by.map(|step| step.number)))
         }
         Place::Nowhere => Some(Obstacle::Inseparable),
@@ -118,7 +118,7 @@ fn newest_in_the_way(
 
 /// That the edit at a place among those that stand after the edit of a number is in the way.
 fn edit_at(alloc: Global, history: &History, number: usize, place: usize) -> Option<Obstacle> {
-    let step = later_at(history, number, place)?;
+    let step = later_at(history.steps(), number, place)?;
     let tool = Bytes::copy_of(alloc, step.tool.name()).ok()?;
     Some(Obstacle::Edit {
         number: step.number,
@@ -126,11 +126,13 @@ fn edit_at(alloc: Global, history: &History, number: usize, place: usize) -> Opt
     })
 }
 
-/// The edit at a place among those that stand after the edit of a number.
-fn later_at(history: &History, number: usize, place: usize) -> Option<Step> {
+/// The edit at a place among the steps of a history that stand after the edit of a number.
+fn later_at(steps: Steps<'_>, number: usize, place: usize) -> Option<Step>
+    ensures { result ≡ slice_get (filter (λ step. step.done && nat_lt number step.number) steps.entry) place }
+{
     let mut left = place;
-    for step in history.steps() {
-        if step.done && step.number > number {
+    for step in steps {
+        if step.done && number < step.number {
             if left == 0 {
                 return Some(step);
             }

@@ -9,7 +9,7 @@ ghost use Rattle.rec_tools.specs.Outcomes.{Decides};
 ghost use Rattle.rec_tools.specs.proving.Courses.{LeadsFromFile, IsTextOfChange, IsPreviewed, replied};
 
 use crate::decision::{Change, Decision, decide};
-use crate::request::{Reply, Request};
+use crate::request::Request;
 use rec_diff::{DiffStyle, write_diff};
 use rec_text::{Fault, Refusal, Sink};
 use std::alloc::Global;
@@ -55,22 +55,4 @@ pub(crate) fn print_decision<S: Sink>(
     let decision = decide(alloc, file, journal, previewed)?;
     write_change(alloc, file, decision.change(), style, out)?;
     Ok(decision)
-}
-
-/// Prints what a request would change that prints nothing itself, as a diff.
-pub fn print_preview<S: Sink>(
-    alloc: Global,
-    file: &[u8],
-    journal: &[u8],
-    previewed: &Request,
-    style: &DiffStyle,
-    out: &mut S,
-) -> Result<Reply, Refusal>
-    requires { IsSilent (asked_of previewed.now) }
-    ensures written { PrintsAndCounts S.contents S.failure_count out.old out.new
-        (PutsPrintout (IsPreviewed style.now file.now journal.now (asked_of previewed.now))) result }
-    ensures refusals { IfErr result IsRefusal }
-{
-    let decision = print_decision(alloc, file, journal, previewed, style, out)?;
-    Ok(decision.reply())
 }

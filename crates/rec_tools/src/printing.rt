@@ -73,7 +73,7 @@ pub fn inform<S: Sink>(
     ensures refusals { IfErr result IsRefusal }
 {
     let read = RecFile::read(alloc, file)?;
-    write_info(&read, slice_of(record_type), form, out)?;
+    write_info(alloc, &read, slice_of(record_type), form, out)?;
     Ok(Reply::Shown)
 }
 

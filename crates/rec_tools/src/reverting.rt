@@ -80,29 +80,33 @@ fn left_without(
 }
 
 /// The refusal of a text that would be left, by that of reading it.
-fn unread(fault: Fault) -> Fault
+fn unread(alloc: Global, fault: Fault) -> Refusal
     ensures { result ≡ unread fault }
 {
     match fault {
-        Fault::OutOfMemory => Fault::OutOfMemory,
-        Fault::BadPattern => Fault::BadPattern,
-        _ => Fault::ChangedLater,
+        Fault::OutOfMemory => Refusal::from(Fault::OutOfMemory),
+        Fault::BadPattern => Refusal::from(Fault::BadPattern),
+        _ => {
+            let reason = Some(Reason::Obstacle(Obstacle::Unread));
+            Refusal::from(Fault::ChangedLater).about(alloc, reason)
+        }
     }
 }
 
-/// Refuses a text that doesn't read, or else, unless that is forced, one that breaks the rules of its record sets.
-fn require_kept(alloc: Global, text: &[u8], force: bool) -> Result<(), Fault>
+/// Refuses what would be left of a file where that doesn't read, or else, unless that is forced, where it breaks the rules of its
+/// record sets.
+fn require_kept(alloc: Global, file: &[u8], text: &[u8], force: bool) -> Result<(), Refusal>
     ensures found { UnlessMemory result (IsKept force text.now) }
     ensures refusals { IfErr result IsRefusal }
 {
     let left = match RecFile::read(alloc, text) {
         Ok(left) => left,
-        Err(refusal) => return Err(unread(Fault::from(refusal))),
+        Err(refusal) => return Err(unread(alloc, Fault::from(refusal))),
     };
     if force {
         return Ok(());
     }
-    require_rules(alloc, &left)
+    require_rules(alloc, file, &left)
 }
 
 /// The refusal of an edit that can't be taken back alone, with what keeps it from that.
@@ -122,17 +126,6 @@ fn not_alone(
         _ => None,
     };
     let reason = obstacle.map(|obstacle| Reason::Obstacle(obstacle));
-    Refusal::from(fault).about(alloc, reason)
-}
-
-/// The refusal of a text that would be left.
-fn not_kept(alloc: Global, fault: Fault) -> Refusal
-    ensures { result ≡ fault }
-{
-    let reason = match &fault {
-        Fault::ChangedLater => Some(Reason::Obstacle(Obstacle::Unread)),
-        _ => None,
-    };
     Refusal::from(fault).about(alloc, reason)
 }
 
@@ -160,8 +153,6 @@ pub fn reverted(
         Ok(left) => left,
         Err(fault) => return Err(not_alone(alloc, history, number, &standing, file, fault)),
     };
-    match require_kept(alloc, edited.text.as_slice(), force) {
-        Ok(()) => Ok((tool, edited)),
-        Err(fault) => Err(not_kept(alloc, fault)),
-    }
+    require_kept(alloc, file, edited.text.as_slice(), force)?;
+    Ok((tool, edited))
 }

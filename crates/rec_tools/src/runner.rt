@@ -19,9 +19,10 @@ use crate::decision::{Change, Decision, decide};
 use crate::history::print_history;
 use crate::home::{Home, Which};
 use crate::nowhere::Nowhere;
-use crate::preview::print_preview;
+use crate::preview::print_decision;
 use crate::printing::{check, inform, show};
 use crate::request::{Reply, Request};
+use crate::response::{Response, Texts, decided, with_texts, without_texts};
 use crate::showing::{print_edit, print_log};
 use rec_diff::DiffStyle;
 use rec_text::{Bytes, Fault, Refusal, Sink};
@@ -47,33 +48,33 @@ fn slice_of(file: &Option<Change>) -> Option<&[u8]>
     }
 }
 
-/// Carries a decision out.
-fn carry_out<H: Home>(home: &mut H, decision: Decision) -> Result<Reply, Refusal>
+/// Carries a decision on a file out, and hands the texts back.
+fn carry_out<H: Home>(home: &mut H, decision: Decision, file: Bytes) -> Result<Response, Refusal>
     ensures calls { ByCalls H.goes home.old home.new (IsAnswered (outcome_of decision) result) }
     ensures refusals { IsOkUnless result Fault.StoreFailed }
 {
     match decision {
-        Decision::Stay(reply) => Ok(reply),
+        Decision::Stay(reply) => Ok(Response::of_change(reply, file, None, None)),
         Decision::Put {
             journal,
-            file,
+            file: change,
             reply,
         } => {
-            home.put(journal.as_slice(), slice_of(&file))?;
-            Ok(reply)
+            home.put(journal.as_slice(), slice_of(&change))?;
+            Ok(Response::of_change(reply, file, change, Some(journal)))
         }
     }
 }
 
 /// Reads both contents, decides a request that prints nothing, and puts its plan in place.
-fn make_change<H: Home>(alloc: Global, home: &mut H, request: &Request) -> Result<Reply, Refusal>
+fn make_change<H: Home>(alloc: Global, home: &mut H, request: &Request) -> Result<Response, Refusal>
     requires { IsSilent (asked_of request.now) }
     ensures attempts { DoesSilently H.goes home.old home.new (asked_of request.now) result }
     ensures refusals { IfErr result IsRefusal }
 {
     let (file, journal) = read_both(alloc, home)?;
     let decision = decide(alloc, file.as_slice(), journal.as_slice(), request)?;
-    carry_out(home, decision)
+    carry_out(home, decision, file)
 }
 
 /// Reads both contents, and prints the history.
@@ -138,7 +139,7 @@ fn tell_preview<H: Home, S: Sink>(
     out: &mut S,
     previewed: &Request,
     style: &DiffStyle,
-) -> Result<Reply, Refusal>
+) -> Result<Response, Refusal>
     requires { IsSilent (asked_of previewed.now) }
     ensures attempts { (calls : List Call) × (p : Printed) × WentOut S.contents S.failure_count out.old out.new p
         × Attempts H.goes home.old home.new (previewing style.now (asked_of previewed.now)) result calls p }
@@ -146,14 +147,15 @@ fn tell_preview<H: Home, S: Sink>(
     ensures refusals { IfErr result IsRefusal }
 {
     let (file, journal) = read_both(alloc, home)?;
-    print_preview(
+    let decision = print_decision(
         alloc,
         file.as_slice(),
         journal.as_slice(),
         previewed,
         style,
         out,
-    )
+    );
+    decided(decision, file)
 }
 
 /// Reads the contents that a look needs, and prints.
@@ -162,7 +164,7 @@ fn look<H: Home, S: Sink>(
     home: &mut H,
     out: &mut S,
     request: &Request,
-) -> Result<Reply, Refusal>
+) -> Result<Response, Refusal>
     requires { IsLook request.now }
     ensures attempts { (calls : List Call) × (p : Printed) × WentOut S.contents S.failure_count out.old out.new p
         × Attempts H.goes home.old home.new (asked_of request.now) result calls p }
@@ -176,19 +178,30 @@ fn look<H: Home, S: Sink>(
             collapse,
         } => {
             let file = home.read(alloc, Which::Base)?;
-            show(alloc, file.as_slice(), pick, form, *collapse, out)
+            let told = show(alloc, file.as_slice(), pick, form, *collapse, out);
+            with_texts(told, None)
         }
         Request::Info { kind, form } => {
             let file = home.read(alloc, Which::Base)?;
-            inform(alloc, file.as_slice(), kind, *form, out)
+            let told = inform(alloc, file.as_slice(), kind, *form, out);
+            with_texts(told, None)
         }
         Request::Check => {
             let file = home.read(alloc, Which::Base)?;
-            check(alloc, file.as_slice(), out)
+            let told = check(alloc, file.as_slice(), out);
+            let texts = Texts {
+                file,
+                after: None,
+                journal: None,
+            };
+            with_texts(told, Some(texts))
         }
-        Request::History => tell_history(alloc, home, out),
-        Request::Diff(number, style) => tell_edit(alloc, home, out, *number, style),
-        Request::Log(style) => tell_log(alloc, home, out, style),
+        Request::History => with_texts(tell_history(alloc, home, out), None),
+        Request::Diff(number, style) => with_texts(
+            tell_edit(alloc, home, out, *number, style),
+            None,
+        ),
+        Request::Log(style) => with_texts(tell_log(alloc, home, out, style), None),
         Request::Edit { .. }
         | Request::Batch { .. }
         | Request::Undo(_)
@@ -200,7 +213,7 @@ fn look<H: Home, S: Sink>(
 }
 
 /// The reply to a request that writes nothing, of which nothing is printed.
-fn reply_alone<H: Home>(alloc: Global, home: &mut H, request: &Request) -> Result<Reply, Refusal>
+fn reply_alone<H: Home>(alloc: Global, home: &mut H, request: &Request) -> Result<Response, Refusal>
     requires { WritesNothing (asked_of request.now) }
     ensures attempts { (style : StyleOf)
         → DoesSilently H.goes home.old home.new (previewing style (asked_of request.now)) result }
@@ -236,7 +249,7 @@ fn preview<H: Home, S: Sink>(
     out: &mut S,
     previewed: &Request,
     style: &DiffStyle,
-) -> Result<Reply, Refusal>
+) -> Result<Response, Refusal>
     ensures attempts { (calls : List Call) × (p : Printed) × WentOut S.contents S.failure_count out.old out.new p
         × Attempts H.goes home.old home.new (previewing style.now (asked_of previewed.now)) result calls p }
     ensures counted { S.failure_count out.old ≤ S.failure_count out.new }
@@ -254,7 +267,7 @@ fn attempt<H: Home, S: Sink>(
     home: &mut H,
     out: &mut S,
     request: &Request,
-) -> Result<Reply, Refusal>
+) -> Result<Response, Refusal>
     ensures attempts { (calls : List Call) × (p : Printed) × WentOut S.contents S.failure_count out.old out.new p
         × Attempts H.goes home.old home.new (asked_of request.now) result calls p }
     ensures counted { S.failure_count out.old ≤ S.failure_count out.new }
@@ -284,7 +297,7 @@ pub fn run<H: Home, S: Sink>(
     home: &mut H,
     out: &mut S,
     request: &Request,
-) -> Result<Reply, Refusal>
+) -> Result<Response, Refusal>
     // The calls of the home, one by one; what went out; and, for whatever contents the reads tell of, that both and the
     // answer are what the request comes to there.
     ensures attempts { (calls : List Call) × (p : Printed) × WentOut S.contents S.failure_count out.old out.new p
@@ -349,7 +362,7 @@ pub fn run_all<H: Home, S: Sink>(
 {
     let mut answers = Vec::with_capacity(alloc, requests.len())?;
     for request in requests {
-        answers.push_reserved(run(alloc, home, out, request));
+        answers.push_reserved(without_texts(run(alloc, home, out, request)));
     }
     Ok(answers)
 }

@@ -12,6 +12,7 @@ ghost use Rattle.rec_tools.specs.proving.Moving.{GoesThrough};
 
 use crate::home::Home;
 use crate::request::{Reply, Request};
+use crate::response::without_texts;
 use crate::runner::run;
 use rec_journal::Direction;
 use rec_text::{Refusal, Sink};
@@ -51,7 +52,7 @@ fn move_once<H: Home, S: Sink>(
     ensures silent { out.new ≡ out.old }
 {
     let request = move_through(direction, number);
-    run(alloc, home, out, &request)
+    without_texts(run(alloc, home, out, &request))
 }
 
 /// The number of the edit that was taken back or made again, if one was.

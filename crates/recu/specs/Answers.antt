@@ -2,10 +2,12 @@
 -- and which disk is left.
 use Rattle.std.specs.Prelude.{◌≡◌, ◌≢◌, ◌⊎◌, ◌↔◌, ℕ, Bool, true, false, List, [], Option, Some, None, Result, Ok, Err}
 use Rattle.std.specs.Prelude.{IfSome, IsSomeAnd, MatchOption, MatchResult, codes, option_map, unwrap_or, string_bytes}
+use Rattle.std.specs.Prelude.{if◌then◌else◌}
 use Rattle.std.specs.declared.io.ErrorKind.TheVariants.{BrokenPipe}
 use Rattle.std.specs.IoError.{error_kind}
 use Rattle.std.specs.Io.Buffered.{writer_buffer, writer_contents}
 use Rattle.std.specs.Io.KnownBytes.{Appends}
+use Rattle.rec_text.specs.Bytes.{is_nil}
 use Rattle.rec_text.specs.declared.fault.Fault.{Fault}
 use Rattle.rec_text.specs.declared.fault.Fault.TheVariants.{OutOfMemory, StoreFailed}
 use Rattle.rec_text.specs.Sink.{HasRisen}
@@ -52,14 +54,16 @@ IsRequestOf leads story (BatchAt path force preview) (Err fault) = (fault ≡ Ou
 
 -- The paths of the file and the journal of a home, by those that are given: these; but where the default journal of a
 -- file is meant, that of the file to which its path leads, and its journal, where the disk tells what stands there; or
--- these can't be told, or another journal is in the way, or there is no memory for them.
+-- these can't be told, or another journal is in the way, or there is no memory for them. The empty path names no
+-- journal.
 abbrev pub ArePathsOf : (List ℕ → List ℕ) → (List ℕ → List ℕ) → (List ℕ → Option (List ℕ)) → Option Story
     → Option (List ℕ) → JournalPath → Result (Option (List ℕ) × Option (List ℕ)) Fault → Type 0
 ArePathsOf place leads link story (Some path) Default (Ok at) = (file : List ℕ)
     × (at ≡ (Some file, Some (journal_of file)))
     × Told story (AreDefaultPaths place leads link path file (journal_of file))
 ArePathsOf place leads link story (Some path) Default (Err fault) = (fault ≡ OutOfMemory) ⊎ (fault ≡ StoreFailed)
-ArePathsOf place leads link story file (Given path) found = found ≡ Ok (file, Some (string_bytes path))
+ArePathsOf place leads link story file (Given path) found =
+    found ≡ (if is_nil (string_bytes path) then Err StoreFailed else Ok (file, Some (string_bytes path)))
 ArePathsOf place leads link story file journal found = found ≡ Ok (file, None)
 
 -- what a line asks for, with the paths of the file and the journal of the home; or there is none, or no such paths

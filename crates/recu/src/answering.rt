@@ -10,7 +10,7 @@ ghost use Rattle.recu.specs.Answers.{AnswersOn};
 use crate::saying::say_how_far;
 use rec_disk::Disk;
 use rec_files::{DiskHome, StandardOutput, access_of, preview_through, room_for, run_through};
-use rec_tools::{DiffStyle, Direction, Fault, Home, Refusal, Reply, Request, Through};
+use rec_tools::{DiffStyle, Direction, Fault, Home, Refusal, Request, Response, Through};
 use std::io::Write;
 
 /// The answer to a request, which is printed by a writer, once the files are closed, and standard output as it is then, where
@@ -20,7 +20,7 @@ pub fn answer_by<D: Disk + Drop, W: Write + Drop>(
     home: &mut DiskHome<'_, HostRuntime, D>,
     request: &Request,
     writer: W,
-) -> (Result<Reply, Refusal>, Option<StandardOutput<W>>)
+) -> (Result<Response, Refusal>, Option<StandardOutput<W>>)
     ensures answers { AnswersOn D.place D.leads D.folder D.syncs D.story D.works
         ⟦<DiskHome<'static, HostRuntime, D> as Home>⟧.goes home.old home.new (W.contents writer)
         (option_map (out_of W.contents) result.1) request.now result.0 }
@@ -42,7 +42,7 @@ fn answer_to<D: Disk + Drop, W: Write + Drop>(
     home: &mut DiskHome<'_, HostRuntime, D>,
     out: &mut StandardOutput<W>,
     request: &Request,
-) -> Result<Reply, Refusal>
+) -> Result<Response, Refusal>
     ensures answers { BeforeClosing (λ done. Answers D.place D.leads D.folder D.syncs D.story D.works
         ⟦<DiskHome<'static, HostRuntime, D> as Home>⟧.goes home.old done
         (out_of W.contents out.old) (out_of W.contents out.new) request.now result) home.new }
@@ -88,7 +88,7 @@ fn run_alone<D: Disk + Drop, W: Write + Drop>(
     home: &mut DiskHome<'_, HostRuntime, D>,
     out: &mut StandardOutput<W>,
     request: &Request,
-) -> Result<Reply, Refusal>
+) -> Result<Response, Refusal>
     ensures answers { AnswersAlone D.place D.leads D.folder D.syncs D.story D.works
         ⟦<DiskHome<'static, HostRuntime, D> as Home>⟧.goes home.old home.new (out_of W.contents out.old)
         (out_of W.contents out.new) request.now result }
@@ -107,7 +107,7 @@ fn run_dry<D: Disk + Drop, W: Write + Drop>(
     direction: Direction,
     number: usize,
     style: &DiffStyle,
-) -> Result<Reply, Refusal>
+) -> Result<Response, Refusal>
     ensures answers { AnswersDry D.place D.leads D.folder D.syncs D.story D.works
         ⟦<DiskHome<'static, HostRuntime, D> as Home>⟧.goes home.old home.new (out_of W.contents out.old)
         (out_of W.contents out.new) direction number style.now result }
@@ -122,7 +122,7 @@ fn run_once<D: Disk + Drop, W: Write + Drop>(
     home: &mut DiskHome<'_, HostRuntime, D>,
     out: &mut StandardOutput<W>,
     request: &Request,
-) -> Result<Reply, Refusal>
+) -> Result<Response, Refusal>
     ensures answers { AnswersOnce D.place D.leads D.folder D.syncs D.story D.works
         ⟦<DiskHome<'static, HostRuntime, D> as Home>⟧.goes home.old home.new (out_of W.contents out.old)
         (out_of W.contents out.new) request.now result }
@@ -134,8 +134,8 @@ fn run_once<D: Disk + Drop, W: Write + Drop>(
 /// An answer, once what was printed is let out.
 fn let_out<W: Write + Drop>(
     out: &mut StandardOutput<W>,
-    told: Result<Reply, Refusal>,
-) -> Result<Reply, Refusal>
+    told: Result<Response, Refusal>,
+) -> Result<Response, Refusal>
     ensures bytes { Keeps (writer_contents W.contents out.old.writer) (writer_contents W.contents out.new.writer) }
     ensures let_out { IsLetOut told out.old.failed (out_of W.contents out.new) result }
 {
@@ -153,7 +153,7 @@ fn move_through<D: Disk + Drop, W: Write + Drop>(
     out: &mut StandardOutput<W>,
     direction: Direction,
     number: usize,
-) -> Result<Reply, Refusal>
+) -> Result<Response, Refusal>
     ensures answers { BeforeClosing (λ done. AnswersThrough D.place D.leads D.folder D.syncs D.story D.works
         ⟦<DiskHome<'static, HostRuntime, D> as Home>⟧.goes home.old done
         (out_of W.contents out.old) (out_of W.contents out.new) direction number result) home.new }
@@ -166,11 +166,12 @@ fn move_through<D: Disk + Drop, W: Write + Drop>(
 }
 
 /// Where another program came in between, and the moves didn't come to the edit of the number, they are refused too.
-fn answer_of(through: Through, number: usize) -> Result<Reply, Refusal>
+fn answer_of(through: Through, number: usize) -> Result<Response, Refusal>
     ensures { IsMovedTo number through result }
 {
     match through.answer {
         Ok(_) if through.last != Some(number) => Err(Refusal::from(Fault::StoreFailed)),
-        answer => answer,
+        Ok(reply) => Ok(Response::from(reply)),
+        Err(refusal) => Err(refusal),
     }
 }

@@ -14,7 +14,7 @@ use rec_disk::Disk;
 use rec_files::{
     DefaultPaths, DiskHome, StandardOutput, access_of, batch_text, default_paths, explain_output,
 };
-use rec_tools::{Fault, Home, Refusal, Reply, Request, Sink};
+use rec_tools::{Fault, Home, Refusal, Reply, Request, Response, Sink};
 use std::io;
 use std::io::Write;
 use std::rt::Runtime;
@@ -110,11 +110,11 @@ fn has_lost_reader<W: Write + Drop>(printed: &Option<StandardOutput<W>>) -> bool
 }
 
 /// An answer with a reply, or the refusal.
-fn with_reply(answer: Result<Reply, Refusal>) -> Result<Option<Reply>, Refusal>
+fn with_reply(answer: Result<Response, Refusal>) -> Result<Option<Reply>, Refusal>
     ensures reply { IfOk answer (λ reply. result ≡ Ok (Some reply)) }
     ensures fault { IfErr answer (λ fault. result ≡ Err fault) }
 {
-    Ok(Some(answer?))
+    Ok(Some(answer?.reply()))
 }
 
 /// The answer to words that are refused, once it is said what is wrong with them, or the help is printed that they ask for; and
@@ -153,7 +153,7 @@ fn carry_out<D: Disk + Drop, W: Write + Drop>(
     mut disk: D,
     out: W,
     line: CommandLine,
-) -> (Result<Reply, Refusal>, D, Option<StandardOutput<W>>)
+) -> (Result<Response, Refusal>, D, Option<StandardOutput<W>>)
     ensures answer { IsDone D.place D.leads D.folder D.syncs D.story D.works
         ⟦<DiskHome<'static, HostRuntime, D> as Home>⟧.goes D.link disk result.1 (W.contents out)
         (option_map (out_of W.contents) result.2) line result.0 }
@@ -170,7 +170,7 @@ fn do_task<D: Disk + Drop, W: Write + Drop>(
     disk: D,
     out: W,
     task: Task,
-) -> (Result<Reply, Refusal>, D, Option<StandardOutput<W>>)
+) -> (Result<Response, Refusal>, D, Option<StandardOutput<W>>)
     ensures answer { IsCarriedOut D.place D.leads D.folder D.syncs D.story D.works
         ⟦<DiskHome<'static, HostRuntime, D> as Home>⟧.goes disk result.1 (W.contents out)
         (option_map (out_of W.contents) result.2) (option_map string_bytes task.paths.file)
@@ -264,11 +264,17 @@ fn paths_of<D: Disk>(
                 journal: Some(journal),
             })
         }
-        (file, JournalPath::Given(path)) => Ok(Paths {
-            name: None,
-            file,
-            journal: Some(path),
-        }),
+        (file, JournalPath::Given(path)) => {
+            if path.is_empty() {
+                say_empty(rt, path.as_str());
+                return Err(Fault::StoreFailed);
+            }
+            Ok(Paths {
+                name: None,
+                file,
+                journal: Some(path),
+            })
+        }
         (file, _) => Ok(Paths {
             name: None,
             file,

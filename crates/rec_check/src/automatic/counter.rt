@@ -12,14 +12,33 @@ ghost use Rattle.rec_check.specs.proving.Tests.{type_in};
 ghost use Rattle.rec_check.specs.Walking.{AreWithin};
 
 use crate::automatic::{
-    automatic_names, greater, is_counter, may_be_counter, number_after, reading_of,
+    automatic_names, begins_special, greater, is_counter, may_be_counter, number_after, reading_of,
 };
 use crate::field_types::types::Types;
 use crate::rules::Rules;
-use rec_text::{Element, Fault, elements_in};
+use rec_text::{Element, Fault, Reason, Refusal, Uncounted, elements_in, shown};
 use std::alloc::{AllocError, Global};
 use std::collections::HashMap;
 use std::ops::Range;
+
+/// The kind that a descriptor says of a field.
+#[derive(Clone, Copy)]
+struct Kind<'r> {
+    word: &'r [u8],
+    is_defined: bool,
+}
+
+impl Kind<'_> {
+    /// That it isn't counted.
+    fn uncounted(self, alloc: Global) -> Option<Uncounted> {
+        let word = shown(alloc, self.word)?;
+        Some(if self.is_defined {
+            Uncounted::Kind(word)
+        } else {
+            Uncounted::Undefined(word)
+        })
+    }
+}
 
 /// A counter of a set: the name of its fields, and the greatest integer among their values.
 #[derive(Drop)]
@@ -28,6 +47,7 @@ pub struct Counter<'r> {
     /// Whether fields of the name may be counted.
     counts: bool,
     greatest: Option<i64>,
+    kind: Option<Kind<'r>>,
 }
 
 impl<'r> Counter<'r> {
@@ -45,7 +65,7 @@ impl<'r> Counter<'r> {
 
     /// The next number, which counts from then on: one more than the greatest, and 0 where there is none. Where that is
     /// refused, the counter stays as it is.
-    pub fn next_number(&mut self) -> Result<i64, Fault>
+    pub fn next_number(&mut self, alloc: Global) -> Result<i64, Refusal>
         ensures next { (rules : Asked) (numbers : List ℤ) → IsCounterOf rules numbers self.old
             → IsNext rules self.old.name.now numbers result }
         ensures counted { (rules : Asked) (numbers : List ℤ) → IsCounterOf rules numbers self.old
@@ -55,11 +75,32 @@ impl<'r> Counter<'r> {
         ensures unchanged { IfErr result (λ _. self.new ≡ self.old) }
     {
         if !self.counts {
-            return Err(Fault::AutoImpossible);
+            return Err(self.refused(alloc, Fault::AutoImpossible));
         }
-        let number = number_after(self.greatest)?;
-        self.greatest = Some(number);
-        Ok(number)
+        match number_after(self.greatest) {
+            Ok(number) => {
+                self.greatest = Some(number);
+                Ok(number)
+            }
+            Err(fault) => Err(self.refused(alloc, fault)),
+        }
+    }
+
+    /// The refusal of the next number, and why there is none.
+    fn refused(&self, alloc: Global, fault: Fault) -> Refusal
+        ensures { result ≡ fault }
+    {
+        Refusal::from(fault).about(alloc, self.reason(alloc))
+    }
+
+    fn reason(&self, alloc: Global) -> Option<Reason> {
+        let name = shown(alloc, self.name)?;
+        let why = match self.kind {
+            _ if self.counts => Uncounted::End,
+            Some(kind) if !begins_special(self.name) => kind.uncounted(alloc)?,
+            _ => Uncounted::Special,
+        };
+        Some(Reason::Counter { name, why })
     }
 }
 
@@ -155,10 +196,20 @@ fn kept(greatest: &HashMap<&[u8], Option<i64>>, name: &[u8]) -> Option<i64>
     }
 }
 
+/// The kind that is said of a field.
+fn kind_of<'r>(rules: &'r Rules, types: &Types, name: &[u8]) -> Option<Kind<'r>> {
+    let place = *types.places.get(name)?;
+    Some(Kind {
+        word: rules.types.get(place)?.kind.as_slice(),
+        is_defined: types.tests.get(place)?.lazy.is_some(),
+    })
+}
+
 /// A counter for each of these names.
 fn counters_with<'r>(
     alloc: Global,
     names: &[&'r [u8]],
+    rules: &'r Rules,
     types: &Types,
     greatest: &HashMap<&[u8], Option<i64>>,
 ) -> Result<Vec<Counter<'r>>, AllocError>
@@ -172,6 +223,7 @@ fn counters_with<'r>(
             name: *name,
             counts: is_counter(types, name),
             greatest: kept(greatest, name),
+            kind: kind_of(rules, types, name),
         })?;
     }
     Ok(counters)
@@ -195,7 +247,7 @@ pub(crate) fn counters_of<'r>(
     }
     let types = Types::of(alloc, rules)?;
     let greatest = greatest_numbers(alloc, elements, records, &names)?;
-    Ok(counters_with(alloc, &names, &types, &greatest)?)
+    Ok(counters_with(alloc, &names, rules, &types, &greatest)?)
 }
 
 /// The next value of a counter in a set with these records and rules.

@@ -17,7 +17,7 @@ ghost use Rattle.rec_edit.specs.proving.Filling.{numbered, filled_of, ranges_of,
 
 use crate::automatic::numbered::{NumberedField, give};
 use rec_check::{Counter, RecFile};
-use rec_text::{Element, Fault, elements_in};
+use rec_text::{Element, Fault, Refusal, elements_in};
 use std::alloc::Global;
 use std::collections::HashSet;
 use std::ops::Range;
@@ -49,7 +49,7 @@ fn fill_record<'s, 't>(
     counters: &mut [Counter<'s>],
     names: &mut HashSet<&'t [u8]>,
     fields: &[Element<'t>],
-) -> Result<Vec<NumberedField<'s>>, Fault>
+) -> Result<Vec<NumberedField<'s>>, Refusal>
     ensures given { (rules : Rules) (numbers : List ℕ → List ℤ) → AreCounters rules numbers counters.old
         → IfOk result (λ given.
         IsGiven rules numbers (names_of (pieces_of fields.now)) (numbered given.items) counters.new) }
@@ -70,7 +70,7 @@ fn fill_records<'s, 't>(
     elements: &[Element<'t>],
     records: &[Range<usize>],
     filled: &mut Vec<FilledRecord<'s>>,
-) -> Result<(), Fault>
+) -> Result<(), Refusal>
     requires { AreWithin (length elements.now) records.now }
     ensures filled { (rules : Rules) (numbers : List ℕ → List ℤ) → AreCounters rules numbers counters.old
         → OnOk result (FillsMore
@@ -95,7 +95,7 @@ fn fill_set<'s>(
     file: &'s RecFile<'_>,
     place: usize,
     filled: &mut Vec<FilledRecord<'s>>,
-) -> Result<(), Fault>
+) -> Result<(), Refusal>
     requires { place < length (described file.now.schema).sets }
     ensures filled { (records : List (Range ℕ)) (s : Set_) (rules : Rules) → IsSetIn file.now place records s rules
         → OnOk result (FillsMore (AreFilledMembersIn file.now records s rules) filled.old.items filled.new.items) }
@@ -112,7 +112,7 @@ fn fill_set<'s>(
 pub(crate) fn filled_records<'s>(
     alloc: Global,
     file: &'s RecFile<'_>,
-) -> Result<Vec<FilledRecord<'s>>, Fault>
+) -> Result<Vec<FilledRecord<'s>>, Refusal>
     ensures filled { IfOk result (λ filled. AreFilledIn file.now (Ok (filled_of filled.items))) }
     ensures refused { IfErr result (λ fault. IsMemoryOr fault (AreFilledIn file.now (Err fault))) }
     ensures ranges { IfOk result (λ filled. AreRanges (length file.now.pieces) (ranges_of (filled_of filled.items))) }

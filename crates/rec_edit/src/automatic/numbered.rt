@@ -11,7 +11,7 @@ ghost use Rattle.rec_edit.specs.Insertions.{numbered_fields};
 
 use itoa::Buffer;
 use rec_check::Counter;
-use rec_text::{Fault, append_field};
+use rec_text::{Refusal, append_field};
 use std::alloc::{AllocError, Global};
 use std::collections::HashSet;
 
@@ -45,7 +45,7 @@ pub(crate) fn give<'s>(
     alloc: Global,
     counters: &mut [Counter<'s>],
     names: &HashSet<&[u8]>,
-) -> Result<Vec<NumberedField<'s>>, Fault>
+) -> Result<Vec<NumberedField<'s>>, Refusal>
     ensures given { (rules : Rules) (numbers : List ℕ → List ℤ) (own : List (List ℕ))
         → AreCounters rules numbers counters.old → AreNamesOf names.now own
         → IfOk result (λ given. IsGiven rules numbers own (numbered given.items) counters.new) }
@@ -59,7 +59,7 @@ pub(crate) fn give<'s>(
         if names.contains(name) {
             continue;
         }
-        let number = counters[i].next_number()?;
+        let number = counters[i].next_number(alloc)?;
         given.push(NumberedField { name, number })?;
     }
     Ok(given)

@@ -11,8 +11,10 @@ ghost use Rattle.rec_edit.specs.Task.{fresh_by};
 ghost use Rattle.rec_edit.specs.Wording.{pair_of as pair_in, pairs_of, names_in, IsRecordText, ArePairs, IsNewRecord};
 
 use crate::request::{NewRecord, Pair};
-use crate::wording::require_written;
-use rec_text::{Bytes, Database, Element, Fault, elements_in, is_foldable, is_plain_name, read};
+use crate::wording::{refused_name, require_written};
+use rec_text::{
+    Bytes, Database, Element, Fault, Reason, Refusal, elements_in, is_foldable, is_plain_name, read,
+};
 use std::alloc::{AllocError, Global};
 use std::ops::Range;
 
@@ -54,24 +56,31 @@ fn pairs_in(alloc: Global, own: &[Element]) -> Result<Vec<Pair>, Fault>
     Ok(pairs)
 }
 
+/// The refusal of a text that isn't one record.
+fn not_one(alloc: Global) -> Refusal
+    ensures { result ≡ Fault.BadRecord }
+{
+    Refusal::from(Fault::BadRecord).about(alloc, Some(Reason::NotOneRecord))
+}
+
 /// Why a text that can't be read is refused as a record.
-fn cause_of(fault: Fault) -> Fault
+fn cause_of(alloc: Global, fault: Fault) -> Refusal
     ensures { result ≡ reason_of fault }
 {
     match fault {
-        Fault::OutOfMemory => Fault::OutOfMemory,
-        _ => Fault::BadRecord,
+        Fault::OutOfMemory => Refusal::from(Fault::OutOfMemory),
+        _ => not_one(alloc),
     }
 }
 
 /// Reads the text of a new record.
-fn read_record<'t>(alloc: Global, text: &'t [u8]) -> Result<Database<'t>, Fault>
+fn read_record<'t>(alloc: Global, text: &'t [u8]) -> Result<Database<'t>, Refusal>
     ensures elements { IfOk result (λ database. AreElementsOf database text.now) }
     ensures refused { IfErr result (λ fault. IsMemoryOr fault (IsRecordText text.now (Err fault))) }
 {
     match read(alloc, text) {
         Ok(database) => Ok(database),
-        Err(fault) => Err(cause_of(fault)),
+        Err(fault) => Err(cause_of(alloc, fault)),
     }
 }
 
@@ -87,24 +96,26 @@ fn only_one(records: &[Range<usize>]) -> Option<&Range<usize>>
 }
 
 /// The names and values of the one record that a text holds.
-fn pairs_of_text(alloc: Global, text: &[u8]) -> Result<Vec<Pair>, Fault>
+fn pairs_of_text(alloc: Global, text: &[u8]) -> Result<Vec<Pair>, Refusal>
     ensures found { IfOk result (λ pairs. IsRecordText text.now (Ok pairs.items)) }
     ensures refused { IfErr result (λ fault. IsMemoryOr fault (IsRecordText text.now (Err fault))) }
 {
     let database = read_record(alloc, text)?;
     match only_one(database.records().as_slice()) {
-        Some(record) => pairs_in(alloc, elements_in(database.elements(), record)),
-        None => Err(Fault::BadRecord),
+        Some(record) => Ok(pairs_in(alloc, elements_in(database.elements(), record))?),
+        None => Err(not_one(alloc)),
     }
 }
 
 /// The names and values that are given, one by one or as a text.
-fn given_pairs(alloc: Global, fresh: &NewRecord) -> Result<Vec<Pair>, Fault>
+fn given_pairs(alloc: Global, fresh: &NewRecord) -> Result<Vec<Pair>, Refusal>
     ensures found { IfOk result (λ pairs. ArePairs (fresh_by fresh.now) (Ok pairs.items)) }
     ensures refused { IfErr result (λ fault. IsMemoryOr fault (ArePairs (fresh_by fresh.now) (Err fault))) }
 {
     match fresh {
-        NewRecord::Pairs(pairs) if pairs.is_empty() => Err(Fault::BadRecord),
+        NewRecord::Pairs(pairs) if pairs.is_empty() => {
+            Err(Refusal::from(Fault::BadRecord).about(alloc, Some(Reason::NoFields)))
+        }
         NewRecord::Pairs(pairs) => Ok(copies(alloc, pairs)?),
         NewRecord::Text(text) => pairs_of_text(alloc, text.as_slice()),
     }
@@ -132,18 +143,50 @@ fn is_plain_type(record_type: &Option<Bytes>) -> bool
     }
 }
 
+/// The first name that isn't written, of a type and of fields.
+fn bad_name<'p>(record_type: &'p Option<Bytes>, pairs: &'p [Pair]) -> Option<&'p [u8]> {
+    if !is_plain_type(record_type) {
+        return Some(record_type.as_ref()?.as_slice());
+    }
+    let pair = pairs
+        .iter()
+        .find(|pair| !is_plain_name(pair.name.as_slice()))?;
+    Some(pair.name.as_slice())
+}
+
+/// The name of the first field whose value isn't written.
+fn name_of_bad_value(pairs: &[Pair]) -> Option<&[u8]> {
+    let pair = pairs
+        .iter()
+        .find(|pair| !is_foldable(pair.value.as_slice()))?;
+    Some(pair.name.as_slice())
+}
+
+/// The refusal of a new record of which a name or a value isn't written.
+fn unwritten(alloc: Global, record_type: &Option<Bytes>, pairs: &[Pair], fault: Fault) -> Refusal
+    ensures { result ≡ fault }
+{
+    let name = match fault {
+        Fault::BadName => bad_name(record_type, pairs),
+        _ => name_of_bad_value(pairs),
+    };
+    refused_name(alloc, name, fault)
+}
+
 /// The fields of a new record, of this type where one is given.
 pub(crate) fn new_record(
     alloc: Global,
     record_type: &Option<Bytes>,
     fresh: &NewRecord,
-) -> Result<Vec<Pair>, Fault>
+) -> Result<Vec<Pair>, Refusal>
     ensures found { IfOk result (λ pairs. IsNewRecord record_type.now (fresh_by fresh.now) (Ok pairs.items)) }
     ensures refused { IfErr result (λ fault. IsMemoryOr fault
         (IsNewRecord record_type.now (fresh_by fresh.now) (Err fault))) }
 {
     let pairs = given_pairs(alloc, fresh)?;
     let names_are_plain = is_plain_type(record_type) && pairs_have_plain_names(&pairs);
-    require_written(names_are_plain, have_foldable_values(&pairs))?;
-    Ok(pairs)
+    match require_written(names_are_plain, have_foldable_values(&pairs)) {
+        Ok(()) => Ok(pairs),
+        Err(fault) => Err(unwritten(alloc, record_type, &pairs, fault)),
+    }
 }

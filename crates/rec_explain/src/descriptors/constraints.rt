@@ -1,7 +1,7 @@
 //! Constraints that are no expressions.
 use crate::explanation::Explanation;
 use crate::lines::shown::show_place;
-use rec_text::Breach;
+use rec_text::{Breach, SHOWN};
 use std::alloc::Global;
 
 /// Shows where a constraint has its fault, and says what may be meant.
@@ -9,6 +9,9 @@ pub fn explain_constraint(alloc: Global, breach: &Breach, at: usize, said: &mut 
     let Some(value) = &breach.word else {
         return;
     };
+    if is_cut_before(value.as_slice(), at) {
+        return;
+    }
     let (line, place) = line_around(value.as_slice(), at);
     show_place(alloc, line, place, said);
     if let Some(hint) = meant_at(value.as_slice(), at) {
@@ -29,10 +32,17 @@ fn line_around(text: &[u8], at: usize) -> (&[u8], usize) {
     (&[], 0)
 }
 
-/// What may be meant where an expression has its fault.
-fn meant_at(text: &[u8], at: usize) -> Option<&'static str> {
+/// Whether a text was cut, being too long to be shown, and a place lies past what is left.
+fn is_cut_before(text: &[u8], at: usize) -> bool {
+    text.len() > SHOWN && at >= text.len()
+}
+
+/// What may be meant where an expression has its fault, as far as it was kept.
+pub fn meant_at(text: &[u8], at: usize) -> Option<&'static str> {
     let rest = text.get(at..).unwrap_or(&[]);
-    if rest.is_empty() {
+    if is_cut_before(text, at) {
+        None
+    } else if rest.is_empty() {
         Some("the expression isn't complete")
     } else if rest.starts_with(b"==") {
         Some("two values are compared by one =; there are no dates")

@@ -26,7 +26,7 @@ pub fn explain_line(path: &str, number: usize, line: &[u8], said: &mut Explanati
 
 /// Says of a line that it ends in CR LF, if it does.
 pub fn show_ending(path: &str, number: usize, line: &[u8], said: &mut Explanation) {
-    if line.strip_suffix(b"\r").is_some() {
+    if without_cr(line).len() < line.len() {
         let ending = "this line ends in CR LF; those of a rec file end in LF alone";
         said.add_at(path, number, &[ending]);
     }
@@ -40,9 +40,12 @@ pub fn show_line(path: &str, number: usize, line: &[u8], said: &mut Explanation)
     }
 }
 
-/// A line without the CR at its end.
+/// A line without the CR at its end. One that is too long to be shown stays as it is, since it may be cut before its end.
 pub fn without_cr(line: &[u8]) -> &[u8] {
-    line.strip_suffix(b"\r").unwrap_or(line)
+    match line.strip_suffix(b"\r") {
+        Some(start) if line.len() <= SHOWN => start,
+        _ => line,
+    }
 }
 
 /// Shows a text, with a caret under one of its bytes.

@@ -1,4 +1,4 @@
-use Rattle.std.proofs.Common.{◌∙◌, ◌==◌, Ok, ap, inr, subst, sym}
+use Rattle.std.proofs.Common.{◌∙◌, ◌==◌, Ok, ap, inr, refl, subst, sym}
 use Rattle.rec_text.specs.Elements.{AreElementsOf, text_of}
 use Rattle.rec_check.specs.Stored.{described}
 use Rattle.rec_check.specs.Violations.{AreViolations, AreViolationsOf}
@@ -18,11 +18,11 @@ are c = (
 )
 
 pub returns-then-not-is_empty : goal.returns-then-not-is_empty
-returns-then-not-is_empty c = inr (
+returns-then-not-is_empty c = rw c.broken.ensures (inr (
   c.in_ok-found.found.items,
   are (goal.at.returns-then-not-is_empty c).In_ok-found,
-  none_of-some c.in_ok-found.found.items c.from_vec.result _ c.from_vec.ensures (c.is_empty.ensures ∙ ap (λ n. n == 0) c.in_ok-found.found.ok.0) c.if-not-is_empty.true,
-)
+  none_of-some c.in_ok-found.found.items c.in_ok-found.found.items _ refl (c.is_empty.ensures ∙ ap (λ n. n == 0) c.in_ok-found.found.ok.0) c.if-not-is_empty.true,
+))
 
 pub returns : goal.returns
 returns c = inr (

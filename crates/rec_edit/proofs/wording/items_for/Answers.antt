@@ -31,28 +31,28 @@ plain c =
 without_number : (c : After-require_written) → Ok c.in_ok-items.items ≡ unnumbered c.args.action.now c.args.list.now c.in_ok-items.items
 without_number c = sym (c.in_ok-require_unnumbered.ensures c.in_ok-items.items)
 
-pub returns-in_err-require_written : goal.returns-in_err-require_written
-returns-in_err-require_written c =
-    let at = (goal.at.returns-in_err-require_written c).After-require_written in
-    let fault = c.in_err-require_written.field-0.0 in
+pub returns-in-Err : goal.returns-in-Err
+returns-in-Err c =
+    let at = (goal.at.returns-in-Err c).After-require_written in
+    let fault = c.in-Err.fault in
     let items : List Item = c.in_ok-items.items in
     let values : List (List ℕ) = values_of_action c.args.action.now in
     let refused : Err fault ≡ written_items c.args.action.now items =
-    if_writable-err (names at) values items c.require_written.result (c.require_written.ensures (names at) values (plain at) c.gives_foldable_value.ensures) fault c.in_err-require_written.was in
-    rw (kept_error c.from_residual-in_err-require_written.ensures.1)
-    (from_fact fault (AreItemsFor c.args.action.now c.args.list.now (Err fault)) (inr (items, c.in_ok-items.ensures.found, inr (items, without_number at, refused))))
+    if_writable-err (names at) values items c.require_written.result (c.require_written.ensures (names at) values (plain at) c.gives_foldable_value.ensures) fault c.in-Err.is in
+    rw c.unwritten.ensures
+    (from_fact fault (AreItemsFor c.args.action.now c.args.list.now (Err fault)) (inr (items, c.in_ok-items.ensures, inr (items, without_number at, refused))))
 
-pub returns : goal.returns
-returns c =
-    let at = (goal.at.returns c).After-require_written in
+pub returns-in-Ok : goal.returns-in-Ok
+returns-in-Ok c =
+    let at = (goal.at.returns-in-Ok c).After-require_written in
     let items : List Item = c.in_ok-items.items in
     let values : List (List ℕ) = values_of_action c.args.action.now in
     inr (
       items,
-      c.in_ok-items.ensures.found,
+      c.in_ok-items.ensures,
       inr (
         items,
         without_number at,
-        if_writable-ok (names at) values items c.require_written.result (c.require_written.ensures (names at) values (plain at) c.gives_foldable_value.ensures) c.in_ok-require_written.was,
+        if_writable-ok (names at) values items c.require_written.result (c.require_written.ensures (names at) values (plain at) c.gives_foldable_value.ensures) c.in-Ok.is,
       ),
     )

@@ -10,4 +10,4 @@ returns-in-Some-set_of_type c =
 
 pub returns-in-None : goal.returns-in-None
 returns-in-None c =
-    rw c.in-Some.is (sets_for-missing c.in-Some.record_type.now c.args.schema.now.sets.items (sym c.set_of_type.ensures ∙ c.in-None.is))
+    rw (c.refused_set.ensures, c.in-Some.is) (sets_for-missing c.in-Some.record_type.now c.args.schema.now.sets.items (sym c.set_of_type.ensures ∙ c.in-None.is))

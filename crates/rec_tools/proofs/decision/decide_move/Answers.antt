@@ -10,11 +10,11 @@ returns-in_err-history-clause-found c =
 
 pub returns-then-lacks-clause-found : goal.returns-then-lacks-clause-found
 returns-then-lacks-clause-found c =
-    rw c.refused_on.ensures (move-missing c.args.file.now c.args.journal.now c.args.direction c.args.through _ c.in_ok-history.ensures (sym c.if-lacks.true ∙ c.lacks.ensures))
+    rw c.refused_move.ensures (move-missing c.args.file.now c.args.journal.now c.args.direction c.args.through _ c.in_ok-history.ensures (sym c.if-lacks.true ∙ c.lacks.ensures))
 
 pub returns-in-Err-clause-found : goal.returns-in-Err-clause-found
 returns-in-Err-clause-found c =
-    rw c.refused_on-in-Err.ensures (move-refused c.args.file.now c.args.journal.now c.args.direction c.args.through _ c.in_ok-history.ensures
+    rw c.refused_move-in-Err.ensures (move-refused c.args.file.now c.args.journal.now c.args.direction c.args.through _ c.in_ok-history.ensures
     (sym c.lacks.ensures ∙ c.if-lacks.false) _ c.in-Err.ensures.plan.found)
 
 pub returns-clause-found : goal.returns-clause-found

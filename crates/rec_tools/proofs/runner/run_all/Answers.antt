@@ -16,7 +16,7 @@ loop-request-preserved g c =
     let taken = take_one_more c.args.requests.now c.loop-request.request-index c.request-item.result c.loop-request-test.true c.request-item.is in
     let so_far = c.loop-request.invariant in
     record {
-      attempted = rw (taken, c.push_reserved.ensures.items)
+      attempted = rw (taken, c.push_reserved.ensures.items, c.without_texts.ensures)
           (attempted_all-more g.H.Home.goes g.S.Sink.contents g.S.Sink.failure_count _ _ c.run.new.out so_far.counted c.run.ensures.counted _ _ _ _ _ _ _ so_far.attempted c.run.ensures.attempts);
       counted = omega arith;
       answered = omega arith;

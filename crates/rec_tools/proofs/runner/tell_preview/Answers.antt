@@ -14,6 +14,7 @@ returns-in_err-file-clause-attempts g c =
 pub returns-clause-attempts : goal.returns-clause-attempts
 returns-clause-attempts g c =
     let asked = asked_of c.args.previewed.now in
-    attempted-both _ g.S.Sink.contents g.S.Sink.failure_count (previewing c.args.style.now asked) (λ f j. IsPreviewed c.args.style.now f j asked) (silent-reads_both asked c.requires)
-    (previewed-outcome c.args.style.now asked) _ _ c.args.out.now c.print_preview.new.out _ _ _ _ _
-    c.in_ok-file.ensures.calls c.as_slice.ensures c.as_slice-2.ensures c.print_preview.ensures.written
+    rw c.decided.ensures
+    (attempted-both _ g.S.Sink.contents g.S.Sink.failure_count (previewing c.args.style.now asked) (λ f j. IsPreviewed c.args.style.now f j asked) (silent-reads_both asked c.requires)
+    (previewed-outcome c.args.style.now asked) _ _ c.args.out.now c.print_decision-decision.new.out _ _ _ _ _
+    c.in_ok-file.ensures.calls c.as_slice.ensures c.as_slice-2.ensures c.print_decision-decision.ensures.written)

@@ -6,8 +6,9 @@ use Rattle.rec_tools.proofs.through.move_once.Goals as goal
 
 pub returns-clause-attempts : goal.returns-clause-attempts
 returns-clause-attempts g c =
-    subst (λ r. Attempted g.H.Home.goes g.S.Sink.contents g.S.Sink.failure_count c.args.home.now c.run.new.home c.args.out.now c.run.new.out (asked_of r) c.run.result)
-    c.move_through-request.ensures c.run.ensures.attempts
+    rw c.without_texts.ensures
+    (subst (λ r. Attempted g.H.Home.goes g.S.Sink.contents g.S.Sink.failure_count c.args.home.now c.run.new.home c.args.out.now c.run.new.out (asked_of r) c.run.result)
+    c.move_through-request.ensures c.run.ensures.attempts)
 
 pub returns-clause-silent : goal.returns-clause-silent
 returns-clause-silent g c =

@@ -15,7 +15,7 @@ use Rattle.rec_edit.proofs.automatic.numbered.give.Goals.{After-contains}
 
 -- what a proof reads past the end of counters
 abbrev no_counter : Counter
-no_counter = record { name = record { ref_ptr = (0, 0); now = [] }; counts = false; greatest = None }
+no_counter = record { name = record { ref_ptr = (0, 0); now = [] }; counts = false; greatest = None; kind = None }
 
 abbrev own_counter : After-contains → Counter
 own_counter c = get_or c.loop-i.counters c.loop-i.i no_counter

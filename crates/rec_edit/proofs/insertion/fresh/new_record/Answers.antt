@@ -31,22 +31,22 @@ plain c =
 foldable : (c : After-require_written) → c.have_foldable_values.result ≡ list_all (is_foldable 32) (values c)
 foldable c = c.have_foldable_values.ensures ∙ ap (λ (pairs : List Pair). list_all (is_foldable 32) (map (λ pair. pair.value) pairs)) c.deref-2.ensures.value
 
-pub returns-in_err-require_written-clause-refused : goal.returns-in_err-require_written-clause-refused
-returns-in_err-require_written-clause-refused c =
-    let at = (goal.at.returns-in_err-require_written-clause-refused c).After-require_written in
-    let fault = c.in_err-require_written.field-0.0 in
+pub returns-in-Err-clause-refused : goal.returns-in-Err-clause-refused
+returns-in-Err-clause-refused c =
+    let at = (goal.at.returns-in-Err-clause-refused c).After-require_written in
+    let fault = c.in-Err.fault in
     let pairs : List Pair = c.in_ok-pairs.pairs.items in
     let refused : Err fault ≡ written_pairs c.args.record_type.now pairs =
-    if_writable-err (names at) (values at) pairs c.require_written.result (c.require_written.ensures (names at) (values at) (plain at) (foldable at)) fault c.in_err-require_written.was in
-    rw (kept_error c.from_residual-in_err-require_written.ensures.1)
+    if_writable-err (names at) (values at) pairs c.require_written.result (c.require_written.ensures (names at) (values at) (plain at) (foldable at)) fault c.in-Err.is in
+    rw c.unwritten.ensures
     (from_fact fault (IsNewRecord c.args.record_type.now (fresh_by c.args.fresh.now) (Err fault)) (inr (pairs, c.in_ok-pairs.ensures.found, refused)))
 
-pub returns-clause-found : goal.returns-clause-found
-returns-clause-found c =
-    let at = (goal.at.returns-clause-found c).After-require_written in
+pub returns-in-Ok-clause-found : goal.returns-in-Ok-clause-found
+returns-in-Ok-clause-found c =
+    let at = (goal.at.returns-in-Ok-clause-found c).After-require_written in
     let pairs : List Pair = c.in_ok-pairs.pairs.items in
     inr (
       pairs,
       c.in_ok-pairs.ensures.found,
-      if_writable-ok (names at) (values at) pairs c.require_written.result (c.require_written.ensures (names at) (values at) (plain at) (foldable at)) c.in_ok-require_written.was,
+      if_writable-ok (names at) (values at) pairs c.require_written.result (c.require_written.ensures (names at) (values at) (plain at) (foldable at)) c.in-Ok.is,
     )

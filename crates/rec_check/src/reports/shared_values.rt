@@ -1,15 +1,13 @@
 //! Values that stand in an earlier record of a set too.
-use crate::lines::places::{value_of, within};
-use crate::reports::place::Place;
-use rec_text::{Element, count_of};
-use rec_tools::{Rule, Violation};
+use crate::reports::places::{Place, within};
+use rec_text::{Element, Rule, Value, Violation, count_of};
 use std::alloc::{AllocError, Global};
 use std::borrow::CowSlice;
 use std::collections::HashMap;
 
 /// A field whose value an earlier record has too, and where that record begins.
 #[derive(Clone, Copy)]
-pub struct Shared<'d, 't> {
+pub(crate) struct Shared<'d, 't> {
     pub field: &'d Element<'t>,
     pub at: usize,
 }
@@ -18,7 +16,7 @@ pub struct Shared<'d, 't> {
 type Values<'d, 't> = HashMap<CowSlice<'t, u8>, &'d Element<'t>>;
 
 /// The first earlier record with a value of this one, where a violation is of a rule that forbids that.
-pub fn first_shared<'d, 't>(
+pub(crate) fn first_shared<'d, 't>(
     alloc: Global,
     place: &Place<'d, 't>,
     violation: &Violation,
@@ -88,4 +86,12 @@ fn shared_field<'d, 't>(
         }
     }
     Ok(None)
+}
+
+/// The value of a field; reading it needs memory alone.
+fn value_of<'t>(alloc: Global, field: &Element<'t>) -> Result<Value<'t>, AllocError> {
+    match field.value(alloc) {
+        Ok(value) => Ok(value),
+        Err(_) => Err(AllocError),
+    }
 }

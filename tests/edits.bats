@@ -248,6 +248,12 @@ leads_to() {
     only db.rec db.rec.journal
 }
 
+@test "a forced batch that mends one record and breaks another that begins alike" {
+    put db.rec '%rec: P¶%mandatory: B¶¶A: 1¶¶A: 1¶B: 2¶'
+    put changes 'Tool: recset¶Type: P¶Number: 0¶Fields: B¶Add: 1¶¶Tool: recset¶Type: P¶Number: 1¶Fields: B¶Delete: yes¶'
+    forces 'db.rec:7: mandatory B¶' batch --force -b changes db.rec
+}
+
 @test "of a forced edit it is said which rules it breaks, and not which were broken before" {
     local keyed='%rec: P¶%key: Id¶%mandatory: N¶¶Id: 1¶¶Id: 2¶N: b¶'
     put db.rec "$keyed"

@@ -3,7 +3,7 @@ use crate::explanation::Explanation;
 use crate::lines::shown::plain;
 use rec_check::stood_before;
 use rec_text::Database;
-use rec_tools::{EditRequest, RecFile, Request, Texts, Violation};
+use rec_tools::{EditRequest, RecFile, Request, Texts, Violation, batch_edits};
 use std::alloc::{AllocError, Global};
 use std::collections::HashMap;
 
@@ -37,7 +37,7 @@ fn stood(
     after: &RecFile<'_>,
     violations: &[Violation],
 ) -> Option<Vec<bool>> {
-    if !keeps_places(request) {
+    if !are_in_place(alloc, request) {
         return stood_before(alloc, before, after, violations);
     }
     let before = RecFile::read(alloc, before).ok()?;
@@ -47,15 +47,24 @@ fn stood(
     stood_at(alloc, &old, &from, violations, &to).ok()
 }
 
-/// Whether an edit leaves each record in its place.
-fn keeps_places(request: &Request) -> bool {
+/// Whether a request leaves each record in its place.
+fn are_in_place(alloc: Global, request: &Request) -> bool {
     match request {
-        Request::Edit { edit, .. } => matches!(
-            edit,
-            EditRequest::Set { .. } | EditRequest::Replace { .. } | EditRequest::AutoFill
-        ),
+        Request::Edit { edit, .. } => keeps_places(edit),
+        Request::Batch { text, .. } => match batch_edits(alloc, text.as_slice()) {
+            Ok(edits) => edits.iter().all(keeps_places),
+            Err(_) => false,
+        },
         _ => false,
     }
+}
+
+/// Whether an edit leaves each record in its place.
+fn keeps_places(edit: &EditRequest) -> bool {
+    matches!(
+        edit,
+        EditRequest::Set { .. } | EditRequest::Replace { .. } | EditRequest::AutoFill
+    )
 }
 
 /// For each new violation whether an old one is the same in the record of the same number, each as often as it stood.

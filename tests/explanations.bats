@@ -308,6 +308,10 @@ says_only() {
     prints '' "recu: $1¶"
 }
 
+@test "drawn refusals" {
+    python3 "$top/tests/refusals.py" "$program" 300 4
+}
+
 @test "what lies past what can be shown" {
     local blanks
     blanks=$(printf '%1100s' '')

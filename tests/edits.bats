@@ -250,8 +250,13 @@ leads_to() {
 
 @test "a forced batch that mends one record and breaks another that begins alike" {
     put db.rec '%rec: P¶%mandatory: B¶¶A: 1¶¶A: 1¶B: 2¶'
-    put changes 'Tool: recset¶Type: P¶Number: 0¶Fields: B¶Add: 1¶¶Tool: recset¶Type: P¶Number: 1¶Fields: B¶Delete: yes¶'
+    local changes='Tool: recset¶Type: P¶Number: 0¶Fields: B¶Add: 1¶¶Tool: recset¶Type: P¶Number: 1¶Fields: B¶Delete: yes¶'
+    put changes "$changes"
     forces 'db.rec:7: mandatory B¶' batch --force -b changes db.rec
+    # where records go out or come in
+    put more.rec '%rec: P¶%mandatory: B¶¶A: 1¶C: 1¶¶A: 1¶B: 2¶¶A: 3¶B: 3¶'
+    put changes "$changes¶Tool: recdel¶Type: P¶Number: 2¶"
+    forces 'more.rec:8: mandatory B¶' batch --force -b changes more.rec
 }
 
 @test "of a forced edit it is said which rules it breaks, and not which were broken before" {
@@ -301,7 +306,7 @@ leads_to() {
     has db.rec '%rec: P¶%auto: Id¶¶Id: 5¶N: a¶¶Id: 4¶¶Id: 6¶N: b¶'
     put keyed.rec '%rec: P¶%auto: Id¶%mandatory: N¶¶A: 1¶'
     recu 1 recfix --auto keyed.rec
-    prints '' '5: mandatory N¶line 5: Id: 0 (no N)¶keyed.rec: --force makes the edit all the same¶recu: violations: 1¶'
+    prints '' '5: mandatory N¶line 5: Id: 0 (no N)¶all of these stood before the edit: mend them first, by a batch, by hand, or by edits with --force¶keyed.rec: --force makes the edit all the same¶recu: violations: 1¶'
     does recfix --auto --force --journal=j keyed.rec
     has keyed.rec '%rec: P¶%auto: Id¶%mandatory: N¶¶Id: 0¶A: 1¶'
     only db.rec db.rec.journal j journal keyed.rec

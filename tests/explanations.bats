@@ -195,9 +195,9 @@ batch_told() {
     local records='line 7: Id: 1, N: x (int)¶line 7: Id: 1 (N > 0)¶line 11: Id: 2, M: a (also in line 7)¶line 16: %rec: Q, %type: A unknown (nothing defines unknown)¶'
     local stood='all of these stood before the edit: mend them first, by a batch, by hand, or by edits with --force¶'
     prints '' "${report}${records}line 19: A: 1 (no B)¶${stood}f: --force makes the edit all the same¶recu: violations: 5¶"
-    # the last record is known by its first field, which is another one
+    # a record stays in its place, whichever field is edited
     recu 1 recset -t Q -n 0 -f A -s 2 f
-    prints '' "${report}${records//¶/, as before the edit¶}line 19: A: 2 (no B)¶4 of these stood before the edit¶f: --force makes the edit all the same¶recu: violations: 5¶"
+    prints '' "${report}${records}line 19: A: 2 (no B)¶${stood}f: --force makes the edit all the same¶recu: violations: 5¶"
     # on standard error of a terminal alone
     TERM=dumb script -qec "'$recu' recfix f 2> said" shown > /dev/null || true
     has said "${records}line 19: A: 1 (no B)¶"
@@ -210,12 +210,8 @@ batch_told() {
     recu 1 recset -n 0 -f N -s y f
     [ "$(grep -c '^line ' "$BATS_TEST_TMPDIR/err")" = 20 ]
     grep -qx 'line 4: N: y (int)' "$BATS_TEST_TMPDIR/err"
-    grep -qx 'line 42: N: x20 (int), as before the edit' "$BATS_TEST_TMPDIR/err"
+    grep -qx 'line 42: N: x20 (int)' "$BATS_TEST_TMPDIR/err"
     [ "$(tail -n 1 "$BATS_TEST_TMPDIR/err")" = 'recu: violations: 50' ]
-    grep -qx '49 of these stood before the edit' "$BATS_TEST_TMPDIR/err"
-    recu 1 recset -n 0 -f M -a y f
-    grep -qx 'line 4: N: x1 (int)' "$BATS_TEST_TMPDIR/err"
-    grep -qx 'line 43: N: x20 (int)' "$BATS_TEST_TMPDIR/err"
     grep -q '^all of these stood before the edit' "$BATS_TEST_TMPDIR/err"
     recu 1 recins -t P -f N -v y f
     grep -qx 'line 42: N: x20 (int), as before the edit' "$BATS_TEST_TMPDIR/err"
@@ -226,11 +222,8 @@ batch_told() {
 
 @test "which violations a batch leaves stood before it" {
     put f '%rec: P¶%mandatory: B¶%unique: A¶¶A: 1¶¶A: 2¶B: 1¶'
-    put changes 'Tool: recset¶Number: 0¶Fields: C¶Add: 3¶¶Tool: recset¶Number: 1¶Fields: A¶Add: 4¶'
-    explains '5: mandatory B¶8: unique A¶line 5: A: 1 (no B), as before the edit¶line 8: A: 2 (more than one A)¶1 of these stood before the edit¶f: --force makes the edit all the same' 'violations: 2' batch -b changes f
-    # the record is known by its first field, which is another one
     put changes 'Tool: recset¶Number: 0¶Fields: A¶Set: 3¶¶Tool: recset¶Number: 1¶Fields: A¶Add: 4¶'
-    explains '5: mandatory B¶7: unique A¶line 5: A: 3 (no B)¶line 7: A: 2 (more than one A)¶f: --force makes the edit all the same' 'violations: 2' batch -b changes f
+    explains '5: mandatory B¶7: unique A¶line 5: A: 3 (no B), as before the edit¶line 7: A: 2 (more than one A)¶1 of these stood before the edit¶f: --force makes the edit all the same' 'violations: 2' batch -b changes f
     put changes 'Tool: recins¶Type: P¶Field: A¶Value: 5¶¶Tool: recset¶Number: 1¶Fields: A¶Set: 4¶'
     explains '5: mandatory B¶10: mandatory B¶line 5: A: 1 (no B), as before the edit¶line 10: A: 5 (no B)¶1 of these stood before the edit¶f: --force makes the edit all the same' 'violations: 2' batch -b changes f
     put changes 'Tool: recdel¶Number: 0¶¶Tool: recset¶Number: 0¶Fields: B¶Delete: yes¶'

@@ -18,6 +18,6 @@ pub use descriptors::descriptor::type_named;
 pub use laws::{new_descriptor, one_check, one_meaning, one_report, one_schema, same_descriptors};
 pub use rec_file::RecFile;
 pub use rec_text::{Bytes, Database, Element, Fault, Rule, Violation};
-pub use reports::{report_of, stood_before};
+pub use reports::{Before, added_by, report_in, report_of};
 pub use schema::Schema;
 pub use set::Set_;

@@ -1,6 +1,7 @@
 //! What the violations of a text are about.
 mod findings;
 mod places;
+mod record_numbers;
 mod shared_values;
 mod standing;
 mod written;
@@ -9,18 +10,27 @@ use crate::rec_file::RecFile;
 use crate::reports::findings::finding_of;
 use crate::reports::places::{Place, field_of, known_by, place_of};
 use crate::reports::shared_values::{Shared, first_shared};
-pub use crate::reports::standing::stood_before;
+use crate::reports::standing::stood_before;
+pub use crate::reports::standing::{Before, added_by};
 use rec_text::{Element, Offence, Report, Rule, Violation, shown_line};
 use std::alloc::Global;
 
 /// Of how many violations it is told what they are about.
 const TOLD: usize = 20;
 
+/// The violations of a text, and what they are about. They are told whole, or not at all.
+pub fn report_in(alloc: Global, text: &[u8]) -> Option<(Vec<Violation>, Report)> {
+    let file = RecFile::read(alloc, text).ok()?;
+    let violations = file.schema().violations(alloc, file.database()).ok()?;
+    let report = report_of(alloc, None, &file, &violations)?;
+    Some((violations, report))
+}
+
 /// What the violations of a file are about, and which of them stood in the text before an edit, if there was one. It is told
 /// whole, or not at all.
 pub fn report_of(
     alloc: Global,
-    before: Option<&[u8]>,
+    before: Option<Before<'_>>,
     file: &RecFile<'_>,
     violations: &[Violation],
 ) -> Option<Report> {

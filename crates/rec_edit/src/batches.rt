@@ -16,7 +16,7 @@ use crate::answer::{Edited, RefusedEdit};
 use crate::batches::progress::Progress;
 use crate::outcome::{Patched, made};
 use crate::request::Edit;
-use crate::sound::{keep_rules, require_sound};
+use crate::sound::{keep_rules, require_sound, text_before};
 use rec_check::RecFile;
 use rec_text::{Bytes, Fault, Refusal};
 use std::alloc::Global;
@@ -119,7 +119,7 @@ fn outcome(alloc: Global, file: RecFile, edits: &[Edit], force: bool) -> Result<
     ensures refused { IfErr result (λ refused. IsMemoryOr refused.fault
         (AreRefusedAt force (map task_of edits.now) (text_of file.entry.pieces) refused.index refused.fault)) }
 {
-    let before = file.database().text();
+    let before = text_before(&file, edits);
     let is_sound = keep_rules(&file, edits, force);
     let made = all_made(alloc, file, edits, force)?;
     let text = made.text.as_slice();

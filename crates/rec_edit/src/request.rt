@@ -156,4 +156,12 @@ impl Edit<'_> {
             Edit::AutoFill => Tool::RecFix,
         }
     }
+
+    /// Whether it leaves each record in its place.
+    pub(crate) fn is_in_place(&self) -> bool {
+        match self {
+            Edit::Replace { .. } | Edit::Set { .. } | Edit::AutoFill => true,
+            Edit::Insert { .. } | Edit::Delete(_) | Edit::CommentOut(_) => false,
+        }
+    }
 }

@@ -9,7 +9,7 @@ ghost use Rattle.rec_edit.specs.Outcome.{IsSound, IsSoundUnlessForced, PutsNoDes
 ghost use Rattle.rec_edit.specs.Task.{task_of};
 
 use crate::request::Edit;
-use rec_check::{RecFile, report_of};
+use rec_check::{Before, RecFile, report_of};
 use rec_text::{Fault, Reason, Refusal, Violation, Violations};
 use std::alloc::Global;
 
@@ -43,8 +43,16 @@ pub(crate) fn keep_rules(file: &RecFile, edits: &[Edit], force: bool) -> bool
     }
 }
 
+/// The text before some edits.
+pub(crate) fn text_before<'t>(file: &RecFile<'t>, edits: &[Edit]) -> Before<'t> {
+    Before {
+        text: file.database().text(),
+        is_in_place: edits.iter().all(|edit| edit.is_in_place()),
+    }
+}
+
 /// The refusal of a file with these violations, with what they are about, and which of them stood in the text before.
-fn broken(alloc: Global, before: &[u8], file: &RecFile, found: Vec<Violation>) -> Refusal
+fn broken(alloc: Global, before: Before<'_>, file: &RecFile, found: Vec<Violation>) -> Refusal
     ensures { result ≡ Integrity found.items }
 {
     let report = report_of(alloc, Some(before), file, &found);
@@ -53,7 +61,7 @@ fn broken(alloc: Global, before: &[u8], file: &RecFile, found: Vec<Violation>) -
 }
 
 /// Refuses a file that breaks the rules of its record sets, with all its violations. It was made of the text before.
-pub fn require_rules(alloc: Global, before: &[u8], file: &RecFile) -> Result<(), Refusal>
+pub fn require_rules(alloc: Global, before: Before<'_>, file: &RecFile) -> Result<(), Refusal>
     ensures { UnlessMemory result (IsSound (text_of file.now.pieces)) }
 {
     // These are the elements of a text.
@@ -66,7 +74,7 @@ pub fn require_rules(alloc: Global, before: &[u8], file: &RecFile) -> Result<(),
 }
 
 /// The same of a text that is read for it.
-pub(crate) fn require_sound(alloc: Global, before: &[u8], text: &[u8]) -> Result<(), Refusal>
+pub(crate) fn require_sound(alloc: Global, before: Before<'_>, text: &[u8]) -> Result<(), Refusal>
     ensures { UnlessMemory result (IsSound text.now) }
 {
     let file = RecFile::read(alloc, text)?;

@@ -1,5 +1,4 @@
 //! Lines and places of texts, as far as they can be shown.
 pub mod bad_lines;
 pub mod line_endings;
-pub mod places;
 pub mod shown;

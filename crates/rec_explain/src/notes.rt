@@ -5,11 +5,13 @@ ghost use Rattle.rec_explain.specs.Lines.{AreLines, IsShown};
 use crate::about::About;
 use crate::dropped::{say_what_is_dropped, say_what_was_undone};
 use crate::explanation::Explanation;
-use crate::forced::say_what_is_broken;
+use crate::forced::list_violations;
 use crate::refusal::tried;
 use crate::unchanged::explain_unchanged;
-use rec_text::read;
-use rec_tools::{Ask, EditRequest, NewRecord, Pick, Reply, Request, Response, Texts, Tool};
+use rec_tools::{
+    Ask, EditRequest, Pick, Reply, Request, Response, Texts, Tool, added_violations,
+    leaves_comments_out,
+};
 use std::alloc::{AllocError, Global};
 use std::str;
 
@@ -33,8 +35,9 @@ pub fn explain_done(
     say_what_is_dropped(about, reply, events, is_tried, &mut said);
     if is_forced(tried(request))
         && let Some(texts) = response.texts()
+        && let Some(added) = added_violations(alloc, tried(request), texts)
     {
-        say_what_is_broken(alloc, about.file, tried(request), texts, &mut said);
+        list_violations(about.file, &added, &mut said);
     }
     if on_terminal && !is_of_several(request) {
         say_what_came_of_it(alloc, about, request, response, &mut said);
@@ -99,28 +102,15 @@ fn is_of_several(request: &Request) -> bool {
 
 /// Says what of an edit that was made may not have been meant.
 fn say_what_may_surprise(alloc: Global, edit: &EditRequest, said: &mut Explanation) {
-    match edit {
-        EditRequest::Insert { fresh, .. } => say_what_was_left_out(alloc, fresh, said),
-        EditRequest::Replace { pick, fresh } => {
-            say_what_was_left_out(alloc, fresh, said);
-            say_what_all_have(pick, said);
-        }
-        EditRequest::Delete(pick) | EditRequest::CommentOut(pick) | EditRequest::Set { pick, .. } =>
-            say_what_all_have(pick, said),
-        EditRequest::AutoFill => {}
-    }
-}
-
-/// Says that comments of a new record's text were left out, if it has any.
-fn say_what_was_left_out(alloc: Global, fresh: &NewRecord, said: &mut Explanation) {
-    if let NewRecord::Text(text) = fresh
-        && let Ok(database) = read(alloc, text.as_slice())
-        && database
-            .elements()
-            .iter()
-            .any(|element| !element.is_field() && !element.is_blank())
-    {
+    if leaves_comments_out(alloc, edit) {
         said.add(&["comments of the text were left out"]);
+    }
+    match edit {
+        EditRequest::Replace { pick, .. }
+        | EditRequest::Delete(pick)
+        | EditRequest::CommentOut(pick)
+        | EditRequest::Set { pick, .. } => say_what_all_have(pick, said),
+        EditRequest::Insert { .. } | EditRequest::AutoFill => {}
     }
 }
 

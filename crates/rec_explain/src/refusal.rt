@@ -112,10 +112,10 @@ pub(crate) fn explain_reason(
         (_, Some(Reason::NotOneRecord)) => {
             said.add(&["the text has to be one record, as it stands in a file"]);
         }
-        (Fault::BadLine { line }, Some(Reason::Line(shown))) => {
+        (Fault::BadLine { line }, Some(Reason::BadLine(shown))) => {
             explain_bad_line(file, *line, shown.as_slice(), said);
         }
-        (Fault::OpenLine { line }, Some(Reason::Line(shown))) => {
+        (Fault::OpenLine { line }, Some(Reason::OpenLine(shown))) => {
             explain_open_line(file, *line, shown.as_slice(), said);
         }
         (_, Some(Reason::Field(field))) => explain_field(alloc, file, field, said),

@@ -7,7 +7,7 @@ use crate::explanation::Explanation;
 use crate::lines::shown::plain;
 use crate::notes::records;
 use itoa::Buffer;
-use rec_check::{RecFile, report_of};
+use rec_check::report_in;
 use rec_text::{Bytes, Finding, Offence, Reason, Report};
 use rec_tools::{Request, Violation};
 use std::alloc::Global;
@@ -18,10 +18,7 @@ pub fn explain_report(alloc: Global, text: &[u8]) -> Vec<u8>
     ensures whole { AreLines result.items }
 {
     let mut said = Explanation::new(alloc);
-    if let Ok(file) = RecFile::read(alloc, text)
-        && let Ok(violations) = file.schema().violations(alloc, file.database())
-        && let Some(report) = report_of(alloc, None, &file, &violations)
-    {
+    if let Some((violations, report)) = report_in(alloc, text) {
         show_report(alloc, &violations, &report, &mut said);
     }
     said.into_lines()

@@ -3,6 +3,7 @@ ghost use Rattle.std.specs.Prelude.{◌≡◌, ◌+◌, take, IfSome};
 ghost use Rattle.rec_text.specs.Lines.{first_line as line_at_start};
 
 use crate::bytes::Bytes;
+use crate::fault::Fault;
 use crate::reading::lines::{first_line, from_line};
 use std::alloc::Global;
 
@@ -13,8 +14,10 @@ pub const SHOWN: usize = 1000;
 /// or isn't told. Lines count from 1, places in a text from 0.
 #[derive(Drop)]
 pub enum Reason {
-    /// This line can't be read.
-    Line(Bytes),
+    /// This line is no field, comment or blank line.
+    BadLine(Bytes),
+    /// This line ends in a backslash, and none follows.
+    OpenLine(Bytes),
     /// A field of a descriptor breaks a rule.
     Field(BadField),
     /// A text of the request can't be read.
@@ -269,9 +272,17 @@ pub enum Outside {
 }
 
 impl Reason {
-    /// That the line of this number of a text can't be read, if there is memory to tell it.
-    pub(crate) fn of_line(alloc: Global, text: &[u8], number: usize) -> Option<Reason> {
-        Some(Reason::Line(shown_line(alloc, from_line(text, number))?))
+    /// That a text can't be read, with the line that its fault names, if there is memory to tell it.
+    pub(crate) fn of_unread(alloc: Global, text: &[u8], fault: &Fault) -> Option<Reason> {
+        match fault {
+            Fault::BadLine { line } => {
+                Some(Reason::BadLine(shown_line(alloc, from_line(text, *line))?))
+            }
+            Fault::OpenLine { line } => {
+                Some(Reason::OpenLine(shown_line(alloc, from_line(text, *line))?))
+            }
+            _ => None,
+        }
     }
 }
 

@@ -56,12 +56,7 @@ impl Refusal {
     pub fn unread(alloc: Global, text: &[u8], fault: Fault) -> Refusal
         ensures { result ≡ fault }
     {
-        let reason = match &fault {
-            Fault::BadLine { line } | Fault::OpenLine { line } => {
-                Reason::of_line(alloc, text, *line)
-            }
-            _ => None,
-        };
+        let reason = Reason::of_unread(alloc, text, &fault);
         Refusal::from(fault).about(alloc, reason)
     }
 

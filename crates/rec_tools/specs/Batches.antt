@@ -1,7 +1,7 @@
 -- The text of a batch: a rec text, each record of which asks for an edit. The fields of the record are the options of a
 -- tool.
 use Rattle.std.specs.Prelude.{◌≡◌, ◌≢◌, ◌⊎◌, ℕ, Bool, true, false, not, if◌then◌else◌, List, [], ◌∷◌, ◌++◌, map, take}
-use Rattle.std.specs.Prelude.{codes}
+use Rattle.std.specs.Prelude.{codes, slice_get}
 use Rattle.std.specs.Prelude.{Option, Some, None, option_to_list, Result, Ok, Err}
 use Rattle.std.specs.List.{AllByRecursion, AllZip, list_all}
 use Rattle.std.specs.declared.ops.Range.{Range}
@@ -144,3 +144,14 @@ abbrev pub AreEdits : List ℕ → Result (List EditRequest) Fault → Type 0
 AreEdits text answer = ((line : ℕ) × IsUnreadAt text line × (answer ≡ Err (BadBatch line)))
     ⊎ ((pieces : List Piece) × (records : List (Range ℕ)) × AreElementsOf pieces text × AreRecords pieces records
     × AreEditsOf pieces records answer)
+
+-- the record at this index of a text asks for the edit, and begins in this line
+pub record IsEditAt (text : List ℕ) (index line : ℕ) (edit : EditRequest) : Type 0 where
+  pub pieces : List Piece
+  pub records : List (Range ℕ)
+  pub own : Range ℕ
+  pub elements : AreElementsOf pieces text
+  pub listed : AreRecords pieces records
+  pub there : slice_get records index ≡ Some own
+  pub asked : AsksFor (elements_in pieces own) edit
+  pub number : line ≡ line_after (text_of (take own.start pieces))

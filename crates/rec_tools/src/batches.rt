@@ -1,7 +1,8 @@
 //! The edits that a rec text lists, each in a record.
-ghost use Rattle.std.specs.Prelude.{◌≡◌, ◌≢◌, ◌≤◌, ℕ, List, [], true, map, length, codes, Result, Ok, Err, option_to_list, IfOk, IfErr, MatchOption};
+ghost use Rattle.std.specs.Prelude.{◌≡◌, ◌≢◌, ◌≤◌, ℕ, List, [], true, map, length, codes, Result, Ok, Err, option_to_list, IfOk, IfErr, IfSome, MatchOption};
 ghost use Rattle.std.specs.List.{AllZip, list_all};
 ghost use Rattle.rec_text.specs.declared.fault.Fault.{Fault};
+ghost use Rattle.rec_text.specs.Elements.{text_of};
 ghost use Rattle.rec_text.specs.Faults.{IsMemoryOr};
 ghost use Rattle.rec_text.specs.Places.{piece_of, pieces_of};
 ghost use Rattle.rec_text.specs.Records.{AreRecords};
@@ -12,7 +13,7 @@ ghost use Rattle.rec_journal.specs.declared.event.Tool.TheVariants.{RecIns, RecD
 ghost use Rattle.rec_journal.specs.Event.{tool_name};
 ghost use Rattle.std.specs.declared.ops.Range.{Range};
 ghost use Rattle.rec_text.specs.declared.or_memory.OrMemory.TheVariants.{OutOfMemory};
-ghost use Rattle.rec_tools.specs.Batches.{names_for as names_of_tool, is_known as is_known_by, IsBy, HasOnly, HasWord, IsPickOf, IsActionOf, IsFreshOf, AsksTool, AsksFor, AreEdits};
+ghost use Rattle.rec_tools.specs.Batches.{names_for as names_of_tool, is_known as is_known_by, IsBy, HasOnly, HasWord, IsPickOf, IsActionOf, IsFreshOf, AsksTool, AsksFor, AreEdits, IsEditAt};
 ghost use Rattle.rec_tools.specs.Requests.{HasOneAnswer};
 ghost use Rattle.rec_tools.specs.proving.Finding.{FindsPart, AreEditsIn, unread_by};
 
@@ -389,4 +390,25 @@ pub fn batch_edits(alloc: Global, text: &[u8]) -> Result<Vec<EditRequest>, Refus
         Ok(database) => edits_of(alloc, &database),
         Err(fault) => Err(unread(alloc, text, fault)),
     }
+}
+
+/// The edit at an index of a text that was read, and the line at which it begins.
+fn edit_at(alloc: Global, database: &Database<'_>, index: usize) -> Option<(usize, EditRequest)>
+    ensures { IfSome result (λ found. IsEditAt (text_of database.now) index found.0 found.1) }
+{
+    let record = database.records().as_slice().get(index)?;
+    let own = elements_in(database.elements(), record);
+    let Ok(edit) = edit_of(alloc, database, own) else {
+        return None;
+    };
+    let line = database.line_of(database.place_of(record.start));
+    Some((line, edit))
+}
+
+/// The edit at an index of a batch, and the line at which it begins. It is none where memory runs out.
+pub fn batch_edit_at(alloc: Global, text: &[u8], index: usize) -> Option<(usize, EditRequest)>
+    ensures { IfSome result (λ found. IsEditAt text.now index found.0 found.1) }
+{
+    let database = read(alloc, text).ok()?;
+    edit_at(alloc, &database, index)
 }

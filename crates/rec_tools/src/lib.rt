@@ -5,12 +5,14 @@
 mod bad_edits;
 mod batches;
 mod decision;
+mod done;
 mod dry;
 mod editing;
 mod history;
 mod home;
 mod laws;
 mod memory;
+mod missing;
 mod nowhere;
 mod obstacles;
 mod preview;
@@ -24,7 +26,8 @@ mod showing;
 mod telling;
 mod through;
 
-pub use batches::batch_edits;
+pub use batches::{batch_edit_at, batch_edits};
+pub use done::{added_violations, leaves_comments_out};
 pub use dry::preview_through;
 pub use editing::make;
 pub use home::{Home, Which};
@@ -33,6 +36,7 @@ pub use laws::{
     outcomes_are_steps, outside_is_noticed, preview_is_show_after, stops_are_steps,
 };
 pub use memory::MemoryHome;
+pub use missing::{Missing, missing_fields};
 pub use rec_check::RecFile;
 pub use rec_diff::DiffStyle;
 pub use rec_edit::{Action, Edited, NewRecord, Pair, RefusedEdit};

@@ -12,7 +12,7 @@ ghost use Rattle.rec_tools.specs.proving.Reverting.{StandsBefore};
 
 use crate::obstacles::obstacle_of;
 use crate::telling::refused_on;
-use rec_check::RecFile;
+use rec_check::{Before, RecFile};
 use rec_diff::revert;
 use rec_edit::{Edited, require_rules};
 use rec_journal::{
@@ -106,7 +106,11 @@ fn require_kept(alloc: Global, file: &[u8], text: &[u8], force: bool) -> Result<
     if force {
         return Ok(());
     }
-    require_rules(alloc, file, &left)
+    let before = Before {
+        text: file,
+        is_in_place: false,
+    };
+    require_rules(alloc, before, &left)
 }
 
 /// The refusal of an edit that can't be taken back alone, with what keeps it from that.

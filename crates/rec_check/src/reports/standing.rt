@@ -1,48 +1,99 @@
 //! Which violations of an edited text stood before the edit.
 use crate::rec_file::RecFile;
-use crate::reports::places::{elements_of, known_by};
-use crate::set::Set_;
-use rec_text::{Database, Violation, first_line};
+use crate::reports::record_numbers::{number_by_text, records_of};
+use rec_text::{Database, Violation};
 use std::alloc::{AllocError, Global};
 use std::collections::HashMap;
 
-/// A violation in any text: its rule and name, and the line by which its record is known.
-type Known<'v> = (&'v str, &'v [u8], &'v [u8]);
+/// The text before an edit.
+#[derive(Clone, Copy)]
+pub struct Before<'t> {
+    pub text: &'t [u8],
+    /// Whether the edit leaves each record in its place.
+    pub is_in_place: bool,
+}
 
-/// For each violation of an edited file whether it stood in the text before: as often as one of the same rule and name did in a
-/// record that is known by the same line. It is empty where that text keeps its rules.
-pub fn stood_before(
+/// A violation: its rule and name, and the number of its record.
+type Known<'v> = (&'v str, &'v [u8], usize);
+
+/// For each violation of an edited file whether it stood in the text before: in the same record, where the edit leaves each in
+/// its place, or else in one with the same text. It is empty where that text keeps its rules.
+pub(crate) fn stood_before(
     alloc: Global,
-    before: &[u8],
+    before: Before<'_>,
     file: &RecFile<'_>,
     violations: &[Violation],
 ) -> Option<Vec<bool>> {
-    let before = RecFile::read(alloc, before).ok()?;
-    let old = before.schema().violations(alloc, before.database()).ok()?;
+    let old_file = RecFile::read(alloc, before.text).ok()?;
+    let (old_text, text) = (old_file.database(), file.database());
+    let old = old_file.schema().violations(alloc, old_text).ok()?;
     if old.is_empty() {
         return Some(Vec::new(alloc));
     }
-    let old = known_in(alloc, &before, &old).ok()?;
-    let new = known_in(alloc, file, violations).ok()?;
-    found_again(alloc, &old, &new).ok()
+    let is_in_place = before.is_in_place && count_of(old_text) == count_of(text);
+    stood_among(alloc, old_text, &old, text, violations, is_in_place).ok()
 }
 
-/// For each new violation whether an old one is the same, each as often as it stood.
-fn found_again(
+/// The violations of an edited text that didn't stand in the text before, if there is memory to tell them apart.
+pub fn added_by(alloc: Global, before: Before<'_>, after: &[u8]) -> Option<Vec<Violation>> {
+    let file = RecFile::read(alloc, after).ok()?;
+    let violations = file.schema().violations(alloc, file.database()).ok()?;
+    let stood = stood_before(alloc, before, &file, &violations)?;
+    let mut added = Vec::new(alloc);
+    for (index, violation) in violations.into_iter().enumerate() {
+        if stood.get(index) != Some(&true) {
+            added.push(violation).ok()?;
+        }
+    }
+    Some(added)
+}
+
+/// How many records a text has.
+fn count_of(database: &Database<'_>) -> usize {
+    database.records().as_slice().len()
+}
+
+/// For each violation of a text whether it is among the old ones, which stand in the text before.
+fn stood_among(
     alloc: Global,
-    old: &[Known<'_>],
-    new: &[Known<'_>],
+    before: &Database<'_>,
+    old: &[Violation],
+    after: &Database<'_>,
+    new: &[Violation],
+    is_in_place: bool,
+) -> Result<Vec<bool>, AllocError> {
+    let mut from = records_of(alloc, before, old)?;
+    let mut to = records_of(alloc, after, new)?;
+    if !is_in_place {
+        number_by_text(alloc, before, &mut from, after, &mut to)?;
+    }
+    found_again(alloc, old, &from, new, &to)
+}
+
+/// For each new violation whether an old one is the same in a record of the same number, each as often as it stood.
+fn found_again<'v>(
+    alloc: Global,
+    old: &'v [Violation],
+    from: &[usize],
+    new: &'v [Violation],
+    to: &[usize],
 ) -> Result<Vec<bool>, AllocError> {
     let mut counts = HashMap::new(alloc);
-    for known in old {
-        let count = counts.entry(*known)?.or_insert(0usize);
+    for (violation, record) in old.iter().zip(from) {
+        let count = counts
+            .entry(known_as(violation, *record))?
+            .or_insert(0usize);
         *count = count.saturating_add(1);
     }
     let mut found = Vec::with_capacity(alloc, new.len())?;
-    for known in new {
-        found.push(takes(&mut counts, known))?;
+    for (violation, record) in new.iter().zip(to) {
+        found.push(takes(&mut counts, &known_as(violation, *record)))?;
     }
     Ok(found)
+}
+
+fn known_as(violation: &Violation, record: usize) -> Known<'_> {
+    (violation.rule.word(), violation.name.as_slice(), record)
 }
 
 /// Takes one from a count, if it isn't 0.
@@ -53,65 +104,5 @@ fn takes<'v>(counts: &mut HashMap<Known<'v>, usize>, known: &Known<'v>) -> bool 
             true
         }
         _ => false,
-    }
-}
-
-/// The violations of a file, in the order of a report, as they are known in any text.
-fn known_in<'v>(
-    alloc: Global,
-    file: &'v RecFile<'_>,
-    violations: &'v [Violation],
-) -> Result<Vec<Known<'v>>, AllocError> {
-    let starts = starts_of(alloc, file.database())?;
-    let mut found = Vec::with_capacity(alloc, violations.len())?;
-    let mut record = 0;
-    let mut set = 0;
-    for violation in violations {
-        record = record_at(&starts, record, violation.line);
-        set = set_at(file.schema().sets(), set, record);
-        let (rule, name) = (violation.rule.word(), violation.name.as_slice());
-        found.push((rule, name, known_line(file, set, record)))?;
-    }
-    Ok(found)
-}
-
-/// The lines at which the records begin.
-fn starts_of(alloc: Global, database: &Database<'_>) -> Result<Vec<usize>, AllocError> {
-    let records = database.records();
-    let mut starts = Vec::with_capacity(alloc, records.as_slice().len())?;
-    let mut line: usize = 1;
-    let mut place = 0;
-    for record in records.as_slice() {
-        let start = database.place_of(record.start);
-        let before = database.text().get(place..start).unwrap_or(&[]);
-        line = line.saturating_add(before.iter().filter(|byte| **byte == b'\n').count());
-        place = start;
-        starts.push(line)?;
-    }
-    Ok(starts)
-}
-
-/// The record in which a line stands, from one on that begins at the line or before it.
-fn record_at(starts: &[usize], from: usize, line: usize) -> usize {
-    let later = starts.get(from.saturating_add(1)..).unwrap_or(&[]);
-    let passed = later.iter().take_while(|start| **start <= line).count();
-    from.saturating_add(passed)
-}
-
-/// The set of a record, from one on that begins at the record or before it.
-fn set_at(sets: &[Set_], from: usize, record: usize) -> usize {
-    let later = sets.get(from.saturating_add(1)..).unwrap_or(&[]);
-    let passed = later
-        .iter()
-        .take_while(|set| set.head.is_some_and(|head| head <= record))
-        .count();
-    from.saturating_add(passed)
-}
-
-/// The line by which a record of a set is known.
-fn known_line<'v>(file: &'v RecFile<'_>, set: usize, record: usize) -> &'v [u8] {
-    match file.schema().rules().get(set) {
-        Some(rules) => first_line(known_by(rules, elements_of(file.database(), record))),
-        None => &[],
     }
 }

@@ -3,14 +3,11 @@ use crate::explanation::Explanation;
 use crate::lines::bad_lines::{explain_bad_line, explain_open_line};
 use crate::lines::shown::{show_line, without_cr};
 use itoa::Buffer;
-use rec_text::{BadEdit, Needed, Reason, Wanted, first_line, from_line, read};
-use rec_tools::Fault;
-use std::alloc::Global;
+use rec_text::{BadEdit, Needed, Reason, Wanted, first_line, from_line};
 use std::str;
 
 /// Shows the line at which a batch is refused, and says why it can't be read there, or why the record is no edit.
 pub fn explain_bad_batch(
-    alloc: Global,
     path: &str,
     batch: &[u8],
     line: usize,
@@ -18,27 +15,13 @@ pub fn explain_bad_batch(
     said: &mut Explanation,
 ) {
     let shown = first_line(from_line(batch, line));
-    if let Some(Reason::Line(_)) = reason {
-        return explain_unread(alloc, path, batch, line, shown, said);
+    match reason {
+        Some(Reason::BadLine(_)) => explain_bad_line(path, line, shown, said),
+        Some(Reason::OpenLine(_)) => explain_open_line(path, line, shown, said),
+        _ => show_line(path, line, without_cr(shown), said),
     }
-    show_line(path, line, without_cr(shown), said);
     if let Some(Reason::Edit(wrong)) = reason {
         say(path, batch, wrong, said);
-    }
-}
-
-/// Shows a line at which a batch can't be read, and says why.
-fn explain_unread(
-    alloc: Global,
-    path: &str,
-    batch: &[u8],
-    line: usize,
-    shown: &[u8],
-    said: &mut Explanation,
-) {
-    match read(alloc, batch) {
-        Err(Fault::OpenLine { .. }) => explain_open_line(path, line, shown, said),
-        _ => explain_bad_line(path, line, shown, said),
     }
 }
 

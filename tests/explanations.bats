@@ -252,6 +252,8 @@ batch_told() {
     prints '7: mandatory B¶' "standard input:5: $ends"
     ends 1 bash -c 'cat f | "$1" recfix' '' "$recu"
     prints '7: mandatory B¶' "standard input:5: $ends"
+    recu 1 recset -t P -n 0 -f C -a 1 f
+    prints '' '8: mandatory B¶line 8: A: 2 (no B)¶all of these stood before the edit: mend them first, by a batch, by hand, or by edits with --force¶f: --force makes the edit all the same¶recu: violations: 1¶'
     put f 'A: 1¶B: 2\x0D¶'
     does recfix f
     input=f does recfix

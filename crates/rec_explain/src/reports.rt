@@ -4,7 +4,7 @@ ghost use Rattle.rec_explain.specs.Lines.{AreLines, IsShown};
 
 use crate::about::About;
 use crate::explanation::Explanation;
-use crate::lines::shown::plain;
+use crate::lines::shown::{plain, without_cr};
 use crate::notes::records;
 use itoa::Buffer;
 use rec_check::report_in;
@@ -81,7 +81,7 @@ fn show_offence(
     is_old: bool,
     said: &mut Explanation,
 ) {
-    let Some(record) = plain(offence.record.as_slice()) else {
+    let Some(record) = plain(without_cr(offence.record.as_slice())) else {
         return;
     };
     let [comma, field] = beside(record, &offence.field);
@@ -104,7 +104,7 @@ fn show_offence(
 /// The line of the field that breaks a rule, after a comma, where it can be shown and isn't the line of the record.
 fn beside<'f>(record: &str, field: &'f Option<Bytes>) -> [&'f str; 2] {
     match field {
-        Some(field) => match plain(field.as_slice()) {
+        Some(field) => match plain(without_cr(field.as_slice())) {
             Some(line) if line != record => [", ", line],
             _ => ["", ""],
         },

@@ -318,6 +318,20 @@ says_only() {
     says_only 'line 2: not a field, comment or blank line' recsel f
 }
 
+@test "the edits of a history with many gaps" {
+    local number
+    put f 'A: 0¶'
+    for number in {1..12}; do
+        does recset -f A -s "$number" f
+        does recset -f A -s x f
+        does undo f
+    done
+    explains 'f.journal: edits 1, 4, 7, 10, 13, 16, 19, 22, 25, 28, 31, 34 can be undone' 'no such edit' revert 99 f
+    does recset -f A -s 13 f
+    explains 'f.journal: edits from 1 to 37 can be undone, and not all between' 'no such edit' revert 99 f
+    explains 'f.journal: it has edits from 1 to 37, and not all between' 'no such edit' show 99 f
+}
+
 @test "a new record of a batch that has no fields" {
     put f 'A: 1¶'
     put b 'Tool: recins¶'

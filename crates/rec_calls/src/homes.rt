@@ -1,7 +1,7 @@
 //! Calls of `rec_tools`: a home in memory, of which a call fails, and the texts of its answers.
 use crate::log::are;
 use rec_text::{Bytes, Fault};
-use rec_tools::{DiffStyle, Home, MemoryHome, Output, Request, Response, Which, run};
+use rec_tools::{Change, DiffStyle, Home, Look, MemoryHome, Output, Request, Response, Which, run};
 use std::alloc::Global;
 
 /// A home with a file.
@@ -41,10 +41,10 @@ pub fn a_call_of_a_home_fails(alloc: Global) -> Result<bool, Fault> {
     Ok(reads_again(alloc, &mut home)? && puts(&mut home)?)
 }
 
-/// A request that puts a 2 instead of the 1 of the file.
-fn change(alloc: Global) -> Result<Request, Fault> {
+/// A change that puts a 2 instead of the 1 of the file.
+fn change(alloc: Global) -> Result<Change, Fault> {
     let text = Bytes::copy_of(alloc, b"Tool: recset\nNumber: 0\nFields: A\nSet: 2\n")?;
-    Ok(Request::Batch { text, force: false })
+    Ok(Change::Batch { text, force: false })
 }
 
 /// The same, to be tried.
@@ -53,7 +53,7 @@ fn trial(alloc: Global) -> Result<Request, Fault> {
         name: Bytes::copy_of(alloc, b"db.rec")?,
         context: 3,
     };
-    Ok(Request::Preview(Box::new(alloc, change(alloc)?)?, style))
+    Ok(Request::Preview(change(alloc)?, style))
 }
 
 /// The answer to a request. Where it is refused, memory ran out.
@@ -87,9 +87,9 @@ fn has_texts(response: &Response, after: Option<&[u8]>) -> bool {
 /// `Response`, of a check, a change that is tried, and the same that is made.
 pub fn an_answer_has_its_texts(alloc: Global) -> Result<bool, Fault> {
     let mut home = home_of(alloc, b"A: 1\n")?;
-    let checked = answered(alloc, &mut home, &Request::Check)?;
+    let checked = answered(alloc, &mut home, &Request::Look(Look::Check))?;
     let tried = answered(alloc, &mut home, &trial(alloc)?)?;
-    let made = answered(alloc, &mut home, &change(alloc)?)?;
+    let made = answered(alloc, &mut home, &Request::Change(change(alloc)?))?;
     Ok(
         has_texts(&checked, None)
             && has_texts(&tried, Some(b"A: 2\n"))

@@ -10,6 +10,7 @@ use Rattle.clap.specs.Words.{Row, Text, all_of, fault_of, first_of, one_of, subc
 use Rattle.rec_text.specs.Ascii.{equals_sign}
 use Rattle.rec_select.specs.declared.info.InfoForm.{InfoForm}
 use Rattle.rec_select.specs.declared.info.InfoForm.TheVariants.{Counts, Names, Descriptors}
+use Rattle.rec_journal.specs.declared.patch.Direction.TheVariants.{Forward, Backward}
 use Rattle.rec_edit.specs.Options.{action_for, new_record_for}
 use Rattle.rec_diff.specs.declared.style.DiffStyle.{DiffStyle}
 use Rattle.rec_tools.specs.declared.request.Ask.{Ask}
@@ -19,13 +20,15 @@ use Rattle.rec_tools.specs.declared.request.Form.TheVariants.{Blocks, Print, Val
 use Rattle.rec_tools.specs.declared.request.Pick.{Pick}
 use Rattle.rec_tools.specs.declared.request.EditRequest.{EditRequest}
 use Rattle.rec_tools.specs.declared.request.EditRequest.TheVariants.{Insert, Replace, Delete, CommentOut, Set, AutoFill}
-use Rattle.rec_tools.specs.declared.request.Request.{Request, Show, Info, Check, Edit, Batch, Undo, Redo, Forget}
-use Rattle.rec_tools.specs.declared.request.Request.{Revert, History}
-use Rattle.rec_tools.specs.declared.request.Request.{Diff, Log, Preview'}
+use Rattle.rec_tools.specs.declared.request.Look.{Look}
+use Rattle.rec_tools.specs.declared.request.Look.TheVariants.{Show, Info, Check, History, Diff, Log}
+use Rattle.rec_tools.specs.declared.request.Change.TheVariants.{Edit, Batch, Undo, Redo, Revert, Forget}
 use Rattle.rec_tools.specs.Asking.{selection_for}
 use Rattle.rec_disk.specs.Paths.{AreApart}
 use Rattle.rec_command.specs.declared.args.Order.{Order}
-use Rattle.rec_command.specs.declared.args.Order.TheVariants.{Whole, BatchAt}
+use Rattle.rec_command.specs.declared.args.Order.TheVariants.{Look as Looks, Change as Changes, Preview as Previews}
+use Rattle.rec_command.specs.declared.args.ChangeOrder.{ChangeOrder}
+use Rattle.rec_command.specs.declared.args.ChangeOrder.TheVariants.{Whole, BatchAt, Through}
 use Rattle.rec_command.specs.declared.args.CommandLine.{CommandLine}
 use Rattle.rec_command.specs.declared.args.JournalPath.{JournalPath}
 use Rattle.rec_command.specs.declared.args.JournalPath.TheVariants.{Unused, Default, Given}
@@ -180,60 +183,57 @@ AsksEdit tool options (Set pick list action) =
 AsksEdit tool options AutoFill =
     (tool ≡ RecFix) × (has_flag (codes "auto") options ≡ true) × (has_flag (codes "check") options ≡ false)
 
--- the request that they give whole: no batch, and no dry run
-abbrev pub Asks : Tool → List Row → Request → Type 0
-Asks tool options (Show pick form collapse) =
+-- the look that they ask for
+abbrev pub AsksLook : Tool → List Row → Look → Type 0
+AsksLook tool options (Show pick form collapse) =
     (tool ≡ RecSel) × IsPick options pick × (form_for form ≡ form_given options)
     × (collapse ≡ has_flag (codes "collapse") options)
-Asks tool options (Info record_type form) =
+AsksLook tool options (Info record_type form) =
     (tool ≡ RecInf) × (record_type ≡ first_of (codes "type") options) × (info_form_for form ≡ info_form_given options)
-Asks tool options Check =
+AsksLook tool options Check =
     (tool ≡ RecFix) × (has_flag (codes "auto") options ≡ false) × (has_flag (codes "dry-run") options ≡ false)
-Asks tool options (Edit edit force) = AsksEdit tool options edit × (force ≡ has_flag (codes "force") options)
-Asks tool options (Batch text force) = ⊥
-Asks tool options (Undo number) = (tool ≡ ByUndo) × IsEditGiven (first_of (codes "through") options) number
-Asks tool options (Redo number) = (tool ≡ ByRedo) × IsEditGiven (first_of (codes "through") options) number
-Asks tool options (Revert number force) =
+AsksLook tool options History = (tool ≡ ByHistory) × (has_flag (codes "patch") options ≡ false)
+AsksLook tool options (Log style) =
+    (tool ≡ ByHistory) × (has_flag (codes "patch") options ≡ true) × IsStyle options style
+AsksLook tool options (Diff number style) =
+    (tool ≡ ByShow) × IsEditGiven (number_given options) number × IsStyle options style
+
+-- the change that they ask for; a batch has its text in the file that `-b` names
+abbrev pub AsksChange : Tool → List Row → ChangeOrder → Type 0
+AsksChange tool options (Whole (Edit edit force)) =
+    AsksEdit tool options edit × (force ≡ has_flag (codes "force") options)
+AsksChange tool options (Whole (Batch text force)) = ⊥
+AsksChange tool options (Whole (Undo number)) =
+    (tool ≡ ByUndo) × IsEditGiven (first_of (codes "through") options) None × (number ≡ None)
+AsksChange tool options (Whole (Redo number)) =
+    (tool ≡ ByRedo) × IsEditGiven (first_of (codes "through") options) None × (number ≡ None)
+AsksChange tool options (Whole (Revert number force)) =
     (tool ≡ ByRevert) × IsEditGiven (first_of (codes "n") options) (Some number)
     × (force ≡ has_flag (codes "force") options)
-Asks tool options (Forget newest dropped) =
+AsksChange tool options (Whole (Forget newest dropped)) =
     (tool ≡ ByForget) × ((digits : Text) × (first_of (codes "n") options ≡ Some digits) × IsNumber 32 digits newest)
     × (dropped ≡ has_flag (codes "dropped") options)
-Asks tool options History = (tool ≡ ByHistory) × (has_flag (codes "patch") options ≡ false)
-Asks tool options (Log style) =
-    (tool ≡ ByHistory) × (has_flag (codes "patch") options ≡ true) × IsStyle options style
-Asks tool options (Diff number style) =
-    (tool ≡ ByShow) × IsEditGiven (number_given options) number × IsStyle options style
-Asks tool options (Preview' shape own style) = ⊥
-
--- a request, or a batch whose text stands in the file that `-b` names; no dry run
-abbrev pub Orders : Tool → List Row → Order → Type 0
-Orders tool options (Whole request) = Asks tool options request
-Orders tool options (BatchAt path force preview) =
+AsksChange tool options (BatchAt path force) =
     (tool ≡ ByBatch) × (first_of (codes "batch") options ≡ Some (string_bytes path))
-    × (force ≡ has_flag (codes "force") options) × (preview ≡ None)
+    × (force ≡ has_flag (codes "force") options)
+AsksChange tool options (Through Backward number) =
+    (tool ≡ ByUndo) × IsEditGiven (first_of (codes "through") options) (Some number)
+AsksChange tool options (Through Forward number) =
+    (tool ≡ ByRedo) × IsEditGiven (first_of (codes "through") options) (Some number)
 
--- the preview of a request, in this style
-abbrev pub IsPreview : DiffStyle → Request → Request → Type 0
-IsPreview style own (Preview' shape held given) = (held ≡ own) × (given ≡ style)
-IsPreview style own request = ⊥
+-- what they order but for `--dry-run`
+abbrev pub Orders : Tool → List Row → Order → Type 0
+Orders tool options (Looks look) = AsksLook tool options look
+Orders tool options (Changes change) = AsksChange tool options change
+Orders tool options (Previews change style) = ⊥
 
--- the preview of an order
-abbrev pub Previews : DiffStyle → Order → Order → Type 0
-Previews style order (Whole request) = (own : Request) × (order ≡ Whole own) × IsPreview style own request
-Previews style order (BatchAt path force preview) = (order ≡ BatchAt path force None) × (preview ≡ Some style)
-
--- what the options order but for `--dry-run`, or with that the preview of it
+-- what they order, with `--dry-run` the preview of a change; a look has none
 abbrev pub OrdersOrPreviews : Tool → List Row → Order → Type 0
-OrdersOrPreviews tool options order =
-    ((has_flag (codes "dry-run") options ≡ false) × Orders tool options order)
-    ⊎ ((has_flag (codes "dry-run") options ≡ true) × ((own : Order) × (style : DiffStyle)
-    × IsStyle options style × Orders tool options own × Previews style own order))
-
--- the request of a batch with this text, or with a style the preview of it
-abbrev pub IsBatchOf : Text → Bool → Option DiffStyle → Request → Type 0
-IsBatchOf text force None request = request ≡ Batch text force
-IsBatchOf text force (Some style) request = IsPreview style (Batch text force) request
+OrdersOrPreviews tool options (Looks look) = AsksLook tool options look
+OrdersOrPreviews tool options (Changes change) =
+    (has_flag (codes "dry-run") options ≡ false) × AsksChange tool options change
+OrdersOrPreviews tool options (Previews change style) =
+    (has_flag (codes "dry-run") options ≡ true) × IsStyle options style × AsksChange tool options change
 
 -- ---- the paths
 
@@ -257,9 +257,9 @@ HasNoJournal _ _ journal = journal ≡ Unused
 
 -- the journal of an order, by the two paths that are given
 abbrev pub IsJournal : Order → Option (List ℕ) → Option (List ℕ) → JournalPath → Type 0
-IsJournal (Whole (Show pick form collapse)) file given journal = HasNoJournal file given journal
-IsJournal (Whole (Info record_type form)) file given journal = HasNoJournal file given journal
-IsJournal (Whole Check) file given journal = HasNoJournal file given journal
+IsJournal (Looks (Show pick form collapse)) file given journal = HasNoJournal file given journal
+IsJournal (Looks (Info record_type form)) file given journal = HasNoJournal file given journal
+IsJournal (Looks Check) file given journal = HasNoJournal file given journal
 IsJournal _ file given journal = IsEditJournal file given journal
 
 -- ---- the command line

@@ -28,9 +28,8 @@ use editing::{batch_order, deletion, edit_order, insertion, recfix_order, settin
 use forgetting::forget_order;
 use moving::{redo_order, undo_order};
 use paths::{Paths, paths_of};
-pub use previewing::batch_request;
 use previewing::or_preview;
-use rec_tools::{DiffStyle, Fault, Request};
+use rec_tools::{Change, DiffStyle, Direction, Fault, Look};
 pub use refusal::Refusal;
 use reverting::revert_order;
 use selecting::{recinf_order, recsel_order};
@@ -64,14 +63,21 @@ pub enum JournalPath {
 /// What is asked for.
 #[derive(Drop)]
 pub enum Order {
-    /// A request that the words give whole.
-    Whole(Request),
-    /// A batch, whose text is that of the file of this path. A dry run of it has how its diff is printed.
-    BatchAt {
-        path: String,
-        force: bool,
-        preview: Option<DiffStyle>,
-    },
+    Look(Look),
+    Change(ChangeOrder),
+    /// A dry run of a change, and how its diff is printed.
+    Preview(ChangeOrder, DiffStyle),
+}
+
+/// A change that is asked for.
+#[derive(Drop)]
+pub enum ChangeOrder {
+    /// One that the words give whole.
+    Whole(Change),
+    /// A batch, whose text is that of the file of this path.
+    BatchAt { path: String, force: bool },
+    /// Moves that way, by the nearest edit and those after it, as far as the edit of this number.
+    Through(Direction, usize),
 }
 
 /// The words after the program's name. No clause says that they are those which the system gave, since none says what it

@@ -9,5 +9,5 @@ mod options;
 mod status;
 mod tools;
 
-pub use args::{CommandLine, JournalPath, Order, Refusal, batch_request, parse, request_of, words};
+pub use args::{ChangeOrder, CommandLine, JournalPath, Order, Refusal, parse, request_of, words};
 pub use status::finish;

@@ -1,5 +1,5 @@
 //! The requests, each made after those before it, and the texts to which undo of all edits leads.
-use rec_tools::{Bytes, Request};
+use rec_tools::{Bytes, Change, Request};
 use std::alloc::{AllocError, Global};
 
 /// The text before the first request.
@@ -19,20 +19,24 @@ pub const NEXT: usize = REQUESTS - 1;
 
 /// The request of a number.
 pub fn request(alloc: Global, number: usize) -> Result<Request, AllocError> {
+    Ok(Request::Change(change(alloc, number)?))
+}
+
+fn change(alloc: Global, number: usize) -> Result<Change, AllocError> {
     let text = match number {
         0 => "Tool: recset\nNumber: 0\nFields: A\nSet: 5\n",
         1 => "Tool: recdel\nNumber: 1\n",
-        2 => return Ok(Request::Undo(None)),
-        3 => return Ok(Request::Redo(None)),
+        2 => return Ok(Change::Undo(None)),
+        3 => return Ok(Change::Redo(None)),
         FORGETTING => {
-            return Ok(Request::Forget {
+            return Ok(Change::Forget {
                 newest: 1,
                 dropped: false,
             });
         }
         _ => "Tool: recins\nField: B\nValue: 3\n",
     };
-    Ok(Request::Batch {
+    Ok(Change::Batch {
         text: Bytes::copy_of(alloc, text.as_bytes())?,
         force: false,
     })

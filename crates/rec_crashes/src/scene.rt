@@ -4,7 +4,7 @@ use crate::requests::{NEXT, TEXT, first_text, request};
 use crate::story::Story;
 use rec_disk::{Disk, MemoryDisk, MemoryFile};
 use rec_files::{Access, DiskHome, run};
-use rec_tools::{Bytes, DiffStyle, Output, Request};
+use rec_tools::{Bytes, Change, DiffStyle, Look, Output, Request};
 use std::alloc::{AllocError, Global};
 use std::io::Error;
 use std::{io, mem};
@@ -169,7 +169,7 @@ impl<'r> Scene<'r> {
     }
 
     fn undo(&mut self) -> io::Result<bool> {
-        self.run(&Request::Undo(None), Access::Change)
+        self.run(&Request::Change(Change::Undo(None)), Access::Change)
     }
 
     fn undo_all(&mut self) -> io::Result<()> {
@@ -187,7 +187,7 @@ impl<'r> Scene<'r> {
             name: Bytes::from_vec(Vec::new(self.rt.alloc())),
             context: 0,
         };
-        self.run(&Request::Log(style), Access::Look)
+        self.run(&Request::Look(Look::Log(style)), Access::Look)
     }
 
     /// What stands on the disk.

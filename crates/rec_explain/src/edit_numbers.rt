@@ -1,37 +1,37 @@
 //! Which edits a history has, where a request names one that it hasn't.
 use crate::explanation::Explanation;
 use rec_text::Run;
-use rec_tools::Request;
+use rec_tools::Change;
 use std::alloc::{AllocError, Global};
 
 /// Of how many runs of numbers all are listed.
 const LISTED: usize = 12;
 
-/// Says which edits the history has of those that the request can name.
+/// Says which edits the history has of those that the change, or else a look, can name.
 pub fn explain_numbers(
     alloc: Global,
     journal: &str,
-    request: &Request,
+    change: Option<&Change>,
     runs: &[Run],
     said: &mut Explanation,
 ) {
-    if let Ok(edits) = edits_of(alloc, runs, request) {
+    if let Ok(edits) = edits_of(alloc, runs, change) {
         said.add(&[journal, ": ", edits.as_str()]);
     }
 }
 
-/// What is said before and after the numbers of the edits that a request can name.
-fn words_of(request: &Request) -> (&'static str, &'static str) {
-    match request {
-        Request::Undo(_) | Request::Revert { .. } => ("", " can be undone"),
-        Request::Redo(_) => ("", " can be redone"),
+/// What is said before and after the numbers of the edits that a change, or a look, can name.
+fn words_of(change: Option<&Change>) -> (&'static str, &'static str) {
+    match change {
+        Some(Change::Undo(_) | Change::Revert { .. }) => ("", " can be undone"),
+        Some(Change::Redo(_)) => ("", " can be redone"),
         _ => ("it has ", ""),
     }
 }
 
 /// What is said of these numbers.
-fn edits_of(alloc: Global, runs: &[Run], request: &Request) -> Result<String, AllocError> {
-    let (before, after) = words_of(request);
+fn edits_of(alloc: Global, runs: &[Run], change: Option<&Change>) -> Result<String, AllocError> {
+    let (before, after) = words_of(change);
     let (Some(first), Some(last)) = (runs.first(), runs.last()) else {
         return format!(in alloc; "{before}no edit{after}");
     };

@@ -4,8 +4,9 @@ ghost use Rattle.rec_explain.specs.Lines.{AreLines, IsShown};
 
 use crate::about::About;
 use crate::explanation::Explanation;
+use crate::refusal::change_in;
 use rec_text::Outside;
-use rec_tools::{EditRequest, Fault, Request};
+use rec_tools::{Change, EditRequest, Fault, Look, Request};
 use std::alloc::Global;
 
 /// What is said of an empty path.
@@ -44,19 +45,21 @@ fn has_empty_path(about: &About<'_>, request: &Request) -> bool {
 fn is_of_file(request: &Request) -> bool {
     matches!(
         request,
-        Request::Show { .. } | Request::Info { .. } | Request::Check
+        Request::Look(Look::Show { .. } | Look::Info { .. } | Look::Check)
     )
 }
 
 /// Says how a file begins, where one that is missing was to get a record.
 fn explain_missing(about: &About<'_>, request: &Request, said: &mut Explanation) {
     let begins = matches!(
-        request,
-        Request::Batch { .. }
-            | Request::Edit {
-                edit: EditRequest::Insert { .. },
-                ..
-            }
+        change_in(request),
+        Some(
+            Change::Batch { .. }
+                | Change::Edit {
+                    edit: EditRequest::Insert { .. },
+                    ..
+                },
+        )
     );
     if !begins || !about.is_missing {
         return;
@@ -109,7 +112,7 @@ fn explain_journal(about: &About<'_>, line: usize, said: &mut Explanation) {
 /// Says what can be done where the edits no longer lead to the file or from it.
 pub fn explain_drift(
     about: &About<'_>,
-    request: &Request,
+    change: Option<&Change>,
     outside: Outside,
     said: &mut Explanation,
 ) {
@@ -123,7 +126,7 @@ pub fn explain_drift(
             ": a text in it was changed; move it away to go on without the history",
         ]),
     }
-    if matches!(request, Request::Forget { .. }) {
+    if matches!(change, Some(Change::Forget { .. })) {
         said.add(&[
             about.journal,
             ": deleting this file removes all texts that it holds",

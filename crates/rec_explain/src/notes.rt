@@ -6,10 +6,10 @@ use crate::about::About;
 use crate::dropped::{say_what_is_dropped, say_what_was_undone};
 use crate::explanation::Explanation;
 use crate::forced::list_violations;
-use crate::refusal::tried;
+use crate::refusal::change_in;
 use crate::unchanged::explain_unchanged;
 use rec_tools::{
-    Ask, EditRequest, Pick, Reply, Request, Response, Texts, Tool, added_violations,
+    Ask, Change, EditRequest, Pick, Reply, Request, Response, Texts, Tool, added_violations,
     leaves_comments_out,
 };
 use std::alloc::{AllocError, Global};
@@ -33,13 +33,14 @@ pub fn explain_done(
     let is_tried = matches!(request, Request::Preview(_, _));
     let events = events_of(response);
     say_what_is_dropped(about, reply, events, is_tried, &mut said);
-    if is_forced(tried(request))
+    if let Some(change) = change_in(request)
+        && is_forced(change)
         && let Some(texts) = response.texts()
-        && let Some(added) = added_violations(alloc, tried(request), texts)
+        && let Some(added) = added_violations(alloc, change, texts)
     {
         list_violations(about.file, &added, &mut said);
     }
-    if on_terminal && !is_of_several(request) {
+    if on_terminal {
         say_what_came_of_it(alloc, about, request, response, &mut said);
         say_what_was_undone(reply, events, is_tried, &mut said);
     }
@@ -59,12 +60,11 @@ fn events_of(response: &Response) -> &[u8] {
     }
 }
 
-/// Whether a request may break rules of the file.
-fn is_forced(request: &Request) -> bool {
-    match request {
-        Request::Edit { force, .. }
-        | Request::Batch { force, .. }
-        | Request::Revert { force, .. } => *force,
+/// Whether a change may break rules of the file.
+fn is_forced(change: &Change) -> bool {
+    match change {
+        Change::Edit { force, .. } | Change::Batch { force, .. } | Change::Revert { force, .. } =>
+            *force,
         _ => false,
     }
 }
@@ -81,23 +81,18 @@ fn say_what_came_of_it(
         (Request::Preview(tried, _), Reply::Unchanged { chosen }) => {
             explain_unchanged(alloc, about, tried, response.texts(), chosen, true, said);
         }
-        (_, Reply::Unchanged { chosen }) => {
-            explain_unchanged(alloc, about, request, response.texts(), chosen, false, said);
+        (Request::Change(change), Reply::Unchanged { chosen }) => {
+            explain_unchanged(alloc, about, change, response.texts(), chosen, false, said);
         }
         (Request::Preview(_, _), reply) => say(would(alloc, &reply), said),
         (_, reply) => say(done(alloc, &reply), said),
     }
-    if let (Request::Edit { edit, .. }, Reply::Edited { .. }) = (request, response.reply()) {
+    if let (Request::Change(Change::Edit { edit, .. }), Reply::Edited { .. }) = (
+        request,
+        response.reply(),
+    ) {
         say_what_may_surprise(alloc, edit, said);
     }
-}
-
-/// Whether `explain_through` says what was done, or a dry run prints each of several moves.
-fn is_of_several(request: &Request) -> bool {
-    matches!(
-        tried(request),
-        Request::Undo(Some(_)) | Request::Redo(Some(_))
-    )
 }
 
 /// Says what of an edit that was made may not have been meant.

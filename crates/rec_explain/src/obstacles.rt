@@ -3,7 +3,7 @@ use crate::about::About;
 use crate::explanation::Explanation;
 use crate::notes::say;
 use rec_text::Obstacle;
-use rec_tools::Request;
+use rec_tools::Change;
 use std::alloc::{AllocError, Global};
 use std::str;
 
@@ -11,11 +11,11 @@ use std::str;
 pub fn explain_obstacle(
     alloc: Global,
     about: &About<'_>,
-    request: &Request,
+    change: Option<&Change>,
     obstacle: &Obstacle,
     said: &mut Explanation,
 ) {
-    if let Request::Revert { number, .. } = request {
+    if let Some(Change::Revert { number, .. }) = change {
         say(line_of(alloc, about, *number, obstacle), said);
     }
 }

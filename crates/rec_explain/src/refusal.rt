@@ -19,7 +19,7 @@ use crate::requests::types::{explain_deletion, explain_types};
 use crate::requests::words::explain_text;
 use crate::undone::explain_redo;
 use rec_text::{Broken, Reason};
-use rec_tools::{EditRequest, Fault, Refusal, Request};
+use rec_tools::{Change, EditRequest, Fault, Refusal, Request};
 use std::alloc::Global;
 
 /// What a refusal is about, and what can be done: lines, each with its newline. Where memory runs out, less is said.
@@ -28,15 +28,15 @@ pub fn explain(alloc: Global, about: &About<'_>, request: &Request, refusal: &Re
     ensures whole { AreLines result.items }
 {
     let mut said = Explanation::new(alloc);
-    explain_refusal(alloc, about, tried(request), refusal, &mut said);
+    explain_refusal(alloc, about, request, refusal, &mut said);
     said.into_lines()
 }
 
-/// What a dry run tries, which is refused for the same reasons; or the request itself.
-pub(crate) fn tried(request: &Request) -> &Request {
+/// The change that is asked for, or that a dry run tries, which is refused for the same reasons.
+pub(crate) fn change_in(request: &Request) -> Option<&Change> {
     match request {
-        Request::Preview(own, _) => own,
-        _ => request,
+        Request::Change(change) | Request::Preview(change, _) => Some(change),
+        Request::Look(_) => None,
     }
 }
 
@@ -47,10 +47,11 @@ fn explain_refusal(
     refusal: &Refusal,
     said: &mut Explanation,
 ) {
+    let change = change_in(request);
     match refusal.reason() {
-        Some(Reason::Edits(runs)) => explain_numbers(alloc, about.journal, request, runs, said),
-        Some(Reason::Outside(outside)) => explain_drift(about, request, *outside, said),
-        Some(Reason::Obstacle(obstacle)) => explain_obstacle(alloc, about, request, obstacle, said),
+        Some(Reason::Edits(runs)) => explain_numbers(alloc, about.journal, change, runs, said),
+        Some(Reason::Outside(outside)) => explain_drift(about, change, *outside, said),
+        Some(Reason::Obstacle(obstacle)) => explain_obstacle(alloc, about, change, obstacle, said),
         _ => explain_fault(alloc, about, request, refusal, said),
     }
 }
@@ -62,15 +63,15 @@ fn explain_fault(
     refusal: &Refusal,
     said: &mut Explanation,
 ) {
-    match (refusal.fault(), request) {
-        (Fault::Integrity(violations), _) => {
+    match (refusal.fault(), change_in(request)) {
+        (Fault::Integrity(violations), change) => {
             let (violations, reason) = (violations.as_slice(), refusal.reason());
-            explain_violations(alloc, about, request, violations, reason, said);
+            explain_violations(alloc, about, change, violations, reason, said);
         }
         (Fault::StoreFailed, _) => explain_unread(about, request, said),
         (Fault::NothingToRedo, _) => explain_redo(about, refusal.reason(), said),
-        (_, Request::Edit { edit, .. }) => explain_edit(alloc, about, edit, refusal, said),
-        (_, Request::Batch { text, .. }) => {
+        (_, Some(Change::Edit { edit, .. })) => explain_edit(alloc, about, edit, refusal, said),
+        (_, Some(Change::Batch { text, .. })) => {
             explain_batch(alloc, about, text.as_slice(), refusal, said);
         }
         _ => explain_reason(alloc, about, refusal, said),

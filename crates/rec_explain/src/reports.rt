@@ -9,7 +9,7 @@ use crate::notes::records;
 use itoa::Buffer;
 use rec_check::report_in;
 use rec_text::{Bytes, Finding, Offence, Reason, Report};
-use rec_tools::{Request, Violation};
+use rec_tools::{Change, Violation};
 use std::alloc::Global;
 
 /// The records in which the first violations of a text stand, and what these break: lines, each with its newline.
@@ -29,12 +29,12 @@ pub fn explain_report(alloc: Global, text: &[u8]) -> Vec<u8>
 pub fn explain_violations(
     alloc: Global,
     about: &About<'_>,
-    request: &Request,
+    change: Option<&Change>,
     violations: &[Violation],
     reason: Option<&Reason>,
     said: &mut Explanation,
 ) {
-    let is_revert = matches!(request, Request::Revert { .. });
+    let is_revert = matches!(change, Some(Change::Revert { .. }));
     if let Some(Reason::Report(report)) = reason {
         show_report(alloc, violations, report, said);
         say_what_stood(report.stood, violations.len(), is_revert, said);

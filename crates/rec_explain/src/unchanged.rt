@@ -2,14 +2,14 @@
 use crate::about::About;
 use crate::explanation::Explanation;
 use crate::lines::shown::plain;
-use rec_tools::{Action, EditRequest, Missing, Request, Texts, missing_fields};
+use rec_tools::{Action, Change, EditRequest, Missing, Texts, missing_fields};
 use std::alloc::Global;
 
 /// Says that an edit changes nothing, and of one that selects records, which of the fields that it names aren't there.
 pub fn explain_unchanged(
     alloc: Global,
     about: &About<'_>,
-    request: &Request,
+    change: &Change,
     texts: Option<&Texts>,
     chosen: Option<usize>,
     is_tried: bool,
@@ -21,7 +21,7 @@ pub fn explain_unchanged(
         _ => ": nothing changed",
     };
     said.add(&[plain(about.file.as_bytes()).unwrap_or("the file"), nothing]);
-    if let Request::Edit { edit, .. } = request
+    if let Change::Edit { edit, .. } = change
         && let Some(texts) = texts
         && let Some(missing) = missing_fields(alloc, edit, texts.file.as_slice(), chosen)
     {

@@ -3,7 +3,7 @@ ghost use Rattle.std.specs.Prelude.{All};
 ghost use Rattle.rec_explain.specs.Lines.{AreLines, IsShown};
 
 use crate::explanation::Explanation;
-use rec_tools::Request;
+use rec_tools::{Look, Request};
 use std::alloc::Global;
 
 /// A line that says that a tool that was given no file reads standard input.
@@ -22,9 +22,9 @@ pub fn explain_waiting(alloc: Global, request: &Request) -> Vec<u8>
 /// The tool of a request that needs no file.
 fn reading_tool(request: &Request) -> Option<&'static str> {
     match request {
-        Request::Show { .. } => Some("recsel"),
-        Request::Info { .. } => Some("recinf"),
-        Request::Check => Some("recfix"),
+        Request::Look(Look::Show { .. }) => Some("recsel"),
+        Request::Look(Look::Info { .. }) => Some("recinf"),
+        Request::Look(Look::Check) => Some("recfix"),
         _ => None,
     }
 }

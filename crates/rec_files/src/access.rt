@@ -1,6 +1,6 @@
 //! Whether a request may write the file and its journal.
 ghost use Rattle.std.specs.Prelude.{◌≡◌, ◌≢◌};
-ghost use Rattle.rec_tools.specs.Requests.{asked_of, WritesNothing};
+ghost use Rattle.rec_tools.specs.Requests.{IsChange};
 
 use rec_tools::Request;
 
@@ -14,22 +14,11 @@ pub enum Access {
 }
 
 pub fn access_of(request: &Request) -> Access
-    ensures look { result ≡ Access.Look → WritesNothing (asked_of request.now) }
-    ensures change { result ≢ Access.Look → ¬ WritesNothing (asked_of request.now) }
+    ensures look { result ≡ Access.Look → ¬ IsChange request.now }
+    ensures change { result ≢ Access.Look → IsChange request.now }
 {
     match request {
-        Request::Show { .. }
-        | Request::Info { .. }
-        | Request::Check
-        | Request::History
-        | Request::Diff(_, _)
-        | Request::Log(_)
-        | Request::Preview(_, _) => Access::Look,
-        Request::Edit { .. }
-        | Request::Batch { .. }
-        | Request::Undo(_)
-        | Request::Redo(_)
-        | Request::Revert { .. }
-        | Request::Forget { .. } => Access::Change,
+        Request::Look(_) | Request::Preview(_, _) => Access::Look,
+        Request::Change(_) => Access::Change,
     }
 }

@@ -2,8 +2,8 @@
 ghost use Rattle.std.specs.Prelude.{◌≡◌, ◌⊎◌, List, IfErr, IfSome, IsErrOf, option_map, string_bytes};
 ghost use Rattle.rec_tools.specs.Home.{Call};
 ghost use Rattle.rec_tools.specs.Steps.{IsRefusal};
-ghost use Rattle.rec_tools.specs.Printouts.{Printed, WentOut};
-ghost use Rattle.rec_tools.specs.Requests.{asked_of, IsSilent};
+ghost use Rattle.rec_tools.specs.Printouts.{Printed, WentOut, IsSilence};
+ghost use Rattle.rec_tools.specs.Requests.{changing, change_of, asked_of, IsChange};
 ghost use Rattle.rec_tools.specs.Attempts.{Answer, Attempts, AttemptsAll};
 ghost use Rattle.rec_tools.specs.Through.{move_through, moves_through, EndsThrough, PreviewsThrough};
 ghost use Rattle.rec_files.specs.Succeeding.{HomeGoes};
@@ -29,7 +29,7 @@ pub fn run<'r, R: Input + AllocGlobal, D: Disk + Drop, S: Sink>(
         × Attempts (HomeGoes D.place D.leads D.link D.folder D.syncs D.regular D.number D.tells D.story D.works)
         home.old home.new (asked_of request.now) result calls p }
     ensures refusals { IfErr result IsRefusal }
-    ensures silent { IsSilent (asked_of request.now) → out.new ≡ out.old }
+    ensures silent { IsChange request.now → out.new ≡ out.old }
 
     // Stop the program, or cut the power, at any moment: what is on the disk stands for the state before the request or for
     // the next.
@@ -58,26 +58,24 @@ pub fn run<'r, R: Input + AllocGlobal, D: Disk + Drop, S: Sink>(
 
 /// Takes back, or makes again, the nearest edits that way as far as the edit of a number: what `run_through` of `rec_tools`
 /// does.
-pub fn run_through<'r, R: Input + AllocGlobal, D: Disk + Drop, S: Sink>(
+pub fn run_through<'r, R: Input + AllocGlobal, D: Disk + Drop>(
     alloc: Global,
     home: &mut DiskHome<'r, R, D>,
-    out: &mut S,
     direction: Direction,
     number: usize,
 ) -> Through
-    // One answer for each move, by calls of its own; and of each all that is said of a request on a disk.
+    // One answer for each move, by calls of its own, while nothing is printed; and of each all that is said of a request on
+    // a disk.
     ensures attempts { (answers : List Answer) × EndsThrough direction number answers result
-        × ((calls : List Call) × (p : Printed) × WentOut S.contents S.failure_count out.old out.new p
+        × ((calls : List Call) × (p : Printed) × IsSilence p
         × AttemptsAll (HomeGoes D.place D.leads D.link D.folder D.syncs D.regular D.number D.tells D.story D.works)
         home.old home.new (moves_through direction number answers) answers calls p)
         × IfSome (places_by D.leads (option_map string_bytes home.old.file) (string_bytes home.old.journal))
-        (λ p. AreRequestsAt D.place D.folder D.syncs p (asked_of (move_through direction number)) answers
+        (λ p. AreRequestsAt D.place D.folder D.syncs p (changing (change_of (move_through direction number))) answers
         (D.story home.old.disk) (D.story home.new.disk)) }
-
-    ensures silent { out.new ≡ out.old }
 {
     stops_are_steps();
-    rec_tools::run_through(alloc, home, out, direction, number)
+    rec_tools::run_through(alloc, home, direction, number)
 }
 
 /// Prints what each of those moves would change, one after another: what `preview_through` of `rec_tools` does.

@@ -1,8 +1,11 @@
 //! The requests of lines such as `recdel -t P -n 0 --force`: the words of the command line without a path, each of which is
 //! a cell.
 use crate::cells::bytes_in;
-use rec_command::{CommandLine, Order, batch_request, request_of as request_of_words};
-use rec_tools::{Action, Ask, Bytes, EditRequest, Fault, Form, NewRecord, Pick, Request};
+use rec_command::{ChangeOrder, CommandLine, Order, request_of as request_of_words};
+use rec_tools::{
+    Action, Ask, Bytes, Change, EditRequest, Fault, Form, Look, NewRecord, Pick, Request,
+    move_through,
+};
 use std::alloc::{AllocError, Global};
 use std::str;
 
@@ -121,46 +124,52 @@ impl<'w> Cells<'w> {
     /// The cells of a request become what they stand for, of a dry run those of what it tries.
     fn read_request(&self, request: &mut Request) -> Result<(), AllocError> {
         match request {
-            Request::Preview(own, _) => self.read_own(own),
-            own => self.read_own(own),
+            Request::Look(look) => self.read_look(look),
+            Request::Change(change) | Request::Preview(change, _) => self.read_change(change),
         }
     }
 
-    fn read_own(&self, request: &mut Request) -> Result<(), AllocError> {
-        match request {
-            Request::Show { pick, form, .. } => {
+    fn read_look(&self, look: &mut Look) -> Result<(), AllocError> {
+        match look {
+            Look::Show { pick, form, .. } => {
                 self.read_pick(pick)?;
                 self.read_form(form)
             }
-            Request::Info { kind, .. } => self.read_kind(kind),
-            Request::Edit { edit, .. } => self.read_edit(edit),
-            Request::Batch { text, .. } => self.read(text),
-            Request::Check
-            | Request::Undo(_)
-            | Request::Redo(_)
-            | Request::Revert { .. }
-            | Request::Forget { .. }
-            | Request::History
-            | Request::Diff(_, _)
-            | Request::Log(_)
-            | Request::Preview(_, _) => Ok(()),
+            Look::Info { kind, .. } => self.read_kind(kind),
+            Look::Check | Look::History | Look::Diff(_, _) | Look::Log(_) => Ok(()),
+        }
+    }
+
+    fn read_change(&self, change: &mut Change) -> Result<(), AllocError> {
+        match change {
+            Change::Edit { edit, .. } => self.read_edit(edit),
+            Change::Batch { text, .. } => self.read(text),
+            Change::Undo(_) | Change::Redo(_) | Change::Revert { .. } | Change::Forget { .. } => {
+                Ok(())
+            }
         }
     }
 }
 
-/// The request of these words, whose cells are as they stand. A batch has the word that names its path as its text.
+/// The request of these words, whose cells are as they stand.
 fn request_in(alloc: Global, words: &[&str]) -> Result<Request, Fault> {
     let CommandLine { order, .. } = request_of_words(alloc, words)?;
+    Ok(match order {
+        Order::Look(look) => Request::Look(look),
+        Order::Change(order) => Request::Change(change_of(alloc, order)?),
+        Order::Preview(order, style) => Request::Preview(change_of(alloc, order)?, style),
+    })
+}
+
+/// The change of an order. A batch has the word that names its path as its text. Of moves as far as an edit it is the first.
+fn change_of(alloc: Global, order: ChangeOrder) -> Result<Change, AllocError> {
     match order {
-        Order::Whole(request) => Ok(request),
-        Order::BatchAt {
-            path,
-            force,
-            preview,
-        } => {
+        ChangeOrder::Whole(change) => Ok(change),
+        ChangeOrder::BatchAt { path, force } => {
             let text = Bytes::copy_of(alloc, path.as_bytes())?;
-            Ok(batch_request(alloc, text, force, preview)?)
+            Ok(Change::Batch { text, force })
         }
+        ChangeOrder::Through(direction, number) => Ok(move_through(direction, number)),
     }
 }
 

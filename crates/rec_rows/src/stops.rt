@@ -2,7 +2,7 @@
 //! call fails, and on which each request is run that has taken effect: both stand for the same state.
 use crate::log::Log;
 use crate::tester::{STORE_FAILED, Tester};
-use rec_tools::{Fault, Home, Request};
+use rec_tools::{Change, Fault, Home, Look, Request};
 use std::alloc::{AllocError, Global};
 use std::mem;
 
@@ -27,7 +27,7 @@ impl Failing {
 /// A copy of a home, opened with no failure: it has answered its history.
 fn opened(home: &Tester) -> Result<Tester, AllocError> {
     let mut copy = home.copy_of_home()?;
-    copy.answer(&Request::History)?;
+    copy.answer(&Request::Look(Look::History))?;
     Ok(copy)
 }
 
@@ -119,8 +119,8 @@ fn undo_each(
     log: &mut Log,
 ) -> Result<(), AllocError> {
     for _ in 0..=n {
-        home.answer(&Request::Undo(None))?;
-        twin.answer(&Request::Undo(None))?;
+        home.answer(&Request::Change(Change::Undo(None)))?;
+        twin.answer(&Request::Change(Change::Undo(None)))?;
         compare_answers(home, twin, log)?;
         if !twin.said().starts_with("undone ") {
             break;

@@ -3,7 +3,7 @@ use crate::cells::{bytes_in, number_in};
 use crate::command::request_of;
 use crate::log::Log;
 use crate::tester::{Tester, Wanted};
-use rec_tools::{Bytes, Fault, MemoryHome, Request};
+use rec_tools::{Bytes, Change, Fault, MemoryHome, Request};
 use std::alloc::{AllocError, Global};
 
 /// How the requests of a case are run.
@@ -256,13 +256,13 @@ impl Trial {
 
     /// Takes the newest edit back.
     fn take_back(&mut self, log: &mut Log) -> Result<(), Fault> {
-        self.move_by(&Request::Undo(None), "undone", log)?;
+        self.move_by(&Request::Change(Change::Undo(None)), "undone", log)?;
         self.is_as_before(true, log)
     }
 
     /// Makes the newest edit again, whose text is this one.
     fn make_again(&mut self, after: &[u8], log: &mut Log) -> Result<(), Fault> {
-        self.move_by(&Request::Redo(None), "redone", log)?;
+        self.move_by(&Request::Change(Change::Redo(None)), "redone", log)?;
         Ok(log.compare("made again", self.tester.home.file(), after)?)
     }
 

@@ -9,10 +9,14 @@ use Rattle.rec_edit.specs.declared.answer.Edited.{Edited}
 use Rattle.rec_diff.specs.declared.style.DiffStyle.{DiffStyle}
 use Rattle.rec_tools.specs.declared.request.Reply.{Reply}
 use Rattle.rec_tools.specs.declared.request.Reply.TheVariants.{Shown, Edited as EditedReply, Redone, Reverted}
-use Rattle.rec_tools.specs.declared.request.Request.{Request, Undo, Redo, Revert, Forget, History}
+use Rattle.rec_tools.specs.declared.request.Change.{Change}
+use Rattle.rec_tools.specs.declared.request.Change.TheVariants.{Undo, Redo, Revert, Forget}
+use Rattle.rec_tools.specs.declared.request.Look.TheVariants.{History}
+use Rattle.rec_tools.specs.declared.request.Request.{Request}
 use Rattle.rec_tools.specs.Home.{Contents, written}
-use Rattle.rec_tools.specs.Requests.{Asked, showing, editing, previewing, asked_of, WritesNothing}
-use Rattle.rec_tools.specs.Outcomes.{Outcome, IsMade, IsRequestOutcome, printing}
+use Rattle.rec_tools.specs.Requests.{AskedChange, editing, Asked, showing, changing, previewing}
+use Rattle.rec_tools.specs.Requests.{look_of, change_of, asked_of}
+use Rattle.rec_tools.specs.Outcomes.{Outcome, IsMade, IsChangeOutcome, IsRequestOutcome, printing}
 use Rattle.rec_tools.specs.Attempts.{Answer}
 use Rattle.rec_tools.specs.Machine.{State, IsMachineStep, Stands, first_state}
 
@@ -34,52 +38,51 @@ FirstStands = (file : List ℕ) → Stands (record { file = file; journal = [] }
 
 -- ---- a preview
 
--- the reply to a request that made an edit, of which a revert is one too, or made one again
+-- the reply to a change that made an edit, of which a revert is one too, or made one again
 abbrev pub MadeAnEdit : Reply → Type 0
 MadeAnEdit (EditedReply changed number dropped) = Unit {0}
 MadeAnEdit (Redone number tool) = Unit {0}
 MadeAnEdit (Reverted edit tool number) = Unit {0}
 MadeAnEdit _ = ⊥
 
--- The preview of a request that makes an edit, or makes one again, prints what is shown of the newest edit once the
--- request is done.
+-- The preview of a change that makes an edit, or makes one again, prints what is shown of the newest edit once the
+-- change is made.
 abbrev pub PreviewIsShowAfter : Type 0
-PreviewIsShowAfter = (c : Contents) (request : Request) (style : DiffStyle) (done previewed : Outcome)
-    → (WritesNothing (asked_of request) → ⊥) → MadeAnEdit done.reply
-    → IsRequestOutcome c (asked_of request) (Ok done)
-    → IsRequestOutcome c (previewing style (asked_of request)) (Ok previewed)
+PreviewIsShowAfter = (c : Contents) (change : Change) (style : DiffStyle) (done previewed : Outcome)
+    → MadeAnEdit done.reply → IsChangeOutcome c (change_of change) (Ok done)
+    → IsRequestOutcome c (previewing style (change_of change)) (Ok previewed)
     → IsRequestOutcome (written c done.writes) (showing None style) (Ok (printing previewed.text Shown))
 
 -- ---- undo and redo
 
--- whatever comes of what is asked for, it isn't refused, and the file is this text then
-abbrev pub BringsBack : Contents → Asked → List ℕ → Type 0
-BringsBack c asked text = (r : Result Outcome Fault) → IsRequestOutcome c asked r
+-- whatever comes of a change, it isn't refused, and the file is this text then
+abbrev pub BringsBack : Contents → AskedChange → List ℕ → Type 0
+BringsBack c change text = (r : Result Outcome Fault) → IsChangeOutcome c change r
     → (outcome : Outcome) × (r ≡ Ok outcome) × ((written c outcome.writes).file ≡ text)
 
 -- After an edit, a batch, a revert or a redo that was written, an undo brings the file back as it was, byte for byte;
 -- also where the file had been changed outside.
 abbrev pub UndoBringsBack : Type 0
-UndoBringsBack = (c : Contents) (request : Request) (done : Outcome)
-    → done.writes ≢ [] → MadeAnEdit done.reply → IsRequestOutcome c (asked_of request) (Ok done)
-    → BringsBack (written c done.writes) (asked_of (Undo None)) c.file
+UndoBringsBack = (c : Contents) (change : Change) (done : Outcome)
+    → done.writes ≢ [] → MadeAnEdit done.reply → IsChangeOutcome c (change_of change) (Ok done)
+    → BringsBack (written c done.writes) (change_of (Undo None)) c.file
 
 -- after an undo, a redo does
 abbrev pub RedoBringsBack : Type 0
 RedoBringsBack = (c : Contents) (through : Option ℕ) (done : Outcome)
-    → IsRequestOutcome c (asked_of (Undo through)) (Ok done)
-    → BringsBack (written c done.writes) (asked_of (Redo None)) c.file
+    → IsChangeOutcome c (change_of (Undo through)) (Ok done)
+    → BringsBack (written c done.writes) (change_of (Redo None)) c.file
 
 -- ---- a file that was changed outside
 
 -- what is asked for is a preview
 abbrev pub IsPreview : Asked → Type 0
-IsPreview (previewing style asked) = Unit {0}
+IsPreview (previewing style change) = Unit {0}
 IsPreview _ = ⊥
 
 -- the edits that are asked for make this of a text, told with this tool
 abbrev pub MakesOf : Asked → List ℕ → Tool → Edited → Type 0
-MakesOf (editing IsEdit) text tool made = IsMade IsEdit text (Ok (tool, made))
+MakesOf (changing (editing IsEdit)) text tool made = IsMade IsEdit text (Ok (tool, made))
 MakesOf _ text tool made = ⊥
 
 -- an edit begins the history anew, with the outside text as the one before it
@@ -102,15 +105,15 @@ pub record BeginsAnew (c : Contents) (o : Opened) (asked : Asked) (outcome : Out
 -- Nothing is taken back, made again, reverted or forgotten, and the history says so. What is written begins it anew;
 -- where nothing is, only a preview is answered as an edit is.
 pub record IsNoticed (c : Contents) (o : Opened) : Type 0 where
-  pub undo : (through : Option ℕ) (r : Result Outcome Fault) → IsRequestOutcome c (asked_of (Undo through)) r
+  pub undo : (through : Option ℕ) (r : Result Outcome Fault) → IsChangeOutcome c (change_of (Undo through)) r
       → r ≡ Err Drifted
-  pub redo : (through : Option ℕ) (r : Result Outcome Fault) → IsRequestOutcome c (asked_of (Redo through)) r
+  pub redo : (through : Option ℕ) (r : Result Outcome Fault) → IsChangeOutcome c (change_of (Redo through)) r
       → r ≡ Err Drifted
   pub revert : (number : ℕ) (force : Bool) (outcome : Outcome)
-      → IsRequestOutcome c (asked_of (Revert number force)) (Ok outcome) → ⊥
+      → IsChangeOutcome c (change_of (Revert number force)) (Ok outcome) → ⊥
   pub forgetting : (newest : ℕ) (dropped : Bool) (r : Result Outcome Fault)
-      → IsRequestOutcome c (asked_of (Forget newest dropped)) r → r ≡ Err Drifted
-  pub history : (r : Result Outcome Fault) → IsRequestOutcome c (asked_of History) r
+      → IsChangeOutcome c (change_of (Forget newest dropped)) r → r ≡ Err Drifted
+  pub history : (r : Result Outcome Fault) → IsRequestOutcome c (look_of History) r
       → r ≡ Ok (printing (codes "drifted\n") Shown)
   pub edits : (request : Request) (outcome : Outcome) → IsRequestOutcome c (asked_of request) (Ok outcome)
       → outcome.writes ≢ [] → BeginsAnew c o (asked_of request) outcome

@@ -30,8 +30,8 @@ use Rattle.rec_tools.specs.Steps.{Then}
 use Rattle.rec_diff.specs.declared.style.DiffStyle.{DiffStyle}
 use Rattle.rec_diff.specs.Diffs.{IsDiff}
 use Rattle.rec_tools.specs.Printouts.{Printout, IsShownText, printed_history, IsShownEdit, IsWholeLog}
-use Rattle.rec_tools.specs.Requests.{Edits, Asked, looking, listing, showing, listing_changes, editing, moving}
-use Rattle.rec_tools.specs.Requests.{reverting, forgetting, previewing, asked_of}
+use Rattle.rec_tools.specs.Requests.{Edits, AskedChange, editing, moving, reverting, forgetting}
+use Rattle.rec_tools.specs.Requests.{Asked, looking, listing, showing, listing_changes, changing, previewing, asked_of}
 
 -- ---- outcomes
 
@@ -60,7 +60,7 @@ putting plan reply = replacing plan.journal (Some plan.file) reply
 -- a decision as an outcome
 abbrev pub outcome_of : Decision → Outcome
 outcome_of (Stay reply) = staying reply
-outcome_of (Put journal file reply) = replacing journal (option_map (λ change. change.text) file) reply
+outcome_of (Put journal file reply) = replacing journal (option_map (λ new. new.text) file) reply
 
 -- its reply
 abbrev pub reply_in : Decision → Reply
@@ -163,6 +163,17 @@ abbrev pub IsPrinting : (Result Printout Fault → Type 0) → Result Outcome Fa
 IsPrinting IsText (Ok outcome) = (p : Printout) × IsText (Ok p) × (outcome ≡ printing p.text p.reply)
 IsPrinting IsText (Err fault) = IsText (Err fault)
 
+-- ---- a change
+
+-- what a change comes to on the contents
+abbrev pub IsChangeOutcome : Contents → AskedChange → Result Outcome Fault → Type 0
+IsChangeOutcome c (editing IsEdit) =
+    IsPutBy (λ _. IsMade IsEdit c.file) (λ o. edit_reply o.next o.dropped) c
+IsChangeOutcome c (reverting number force) =
+    IsPutBy (λ o. IsRevertOf number force o c.file) (λ o. revert_reply number o.next) c
+IsChangeOutcome c (moving direction through) = Then (IsOpening c.file c.journal) (λ o. IsMove direction through o c)
+IsChangeOutcome c (forgetting n dropping) = Then (IsOpening c.file c.journal) (λ o. IsForgetting n dropping o c)
+
 -- ---- what would change
 
 -- of the edits to take back one is new on top of the others; or it was there, and is gone
@@ -187,7 +198,7 @@ IsPreviewText style c d printed =
     ⊎ ((direction : Direction) × (e : Revision) × LeadsAcross direction e c d
     × IsDiff direction style e.steps c.file d.file (Ok printed))
 
--- what is asked for is printed as a change, and not done
+-- what would be changed is printed, and not done
 pub record IsPreviewOf (style : DiffStyle) (c : Contents) (would outcome : Outcome) : Type 0 where
   pub text : IsPreviewText style c (written c would.writes) outcome.text
   pub writes : outcome.writes ≡ []
@@ -200,30 +211,23 @@ abbrev pub IsRequestOutcome : Contents → Asked → Result Outcome Fault → Ty
 IsRequestOutcome c (looking IsText) answer = IsPrinting (IsText c.file) answer
 IsRequestOutcome c listing answer =
     Then (IsOpening c.file c.journal) (λ o given. given ≡ Ok (printing (printed_history o) Shown)) answer
-IsRequestOutcome c (editing IsEdit) answer =
-    IsPutBy (λ _. IsMade IsEdit c.file) (λ o. edit_reply o.next o.dropped) c answer
-IsRequestOutcome c (reverting number force) answer =
-    IsPutBy (λ o. IsRevertOf number force o c.file) (λ o. revert_reply number o.next) c answer
-IsRequestOutcome c (moving direction through) answer =
-    Then (IsOpening c.file c.journal) (λ o. IsMove direction through o c) answer
-IsRequestOutcome c (forgetting n dropping) answer =
-    Then (IsOpening c.file c.journal) (λ o. IsForgetting n dropping o c) answer
 IsRequestOutcome c (showing number style) answer =
     IsPrinting (IsShownText (IsShownEdit number style c.file c.journal)) answer
 IsRequestOutcome c (listing_changes style) answer = IsPrinting (IsShownText (IsWholeLog style c.file c.journal)) answer
-IsRequestOutcome c (previewing style asked) (Ok outcome) =
-    (would : Outcome) × IsRequestOutcome c asked (Ok would) × IsPreviewOf style c would outcome
-IsRequestOutcome c (previewing style asked) (Err fault) = IsRequestOutcome c asked (Err fault)
+IsRequestOutcome c (changing change) answer = IsChangeOutcome c change answer
+IsRequestOutcome c (previewing style change) (Ok outcome) =
+    (would : Outcome) × IsChangeOutcome c change (Ok would) × IsPreviewOf style c would outcome
+IsRequestOutcome c (previewing style change) (Err fault) = IsChangeOutcome c change (Err fault)
 
 -- an answer with the decision as an outcome
 abbrev pub outcome_in : Result Decision Fault → Result Outcome Fault
 outcome_in (Ok decision) = Ok (outcome_of decision)
 outcome_in (Err fault) = Err fault
 
--- a decision is what is asked for on a file and a journal, or it is refused so
-abbrev pub Decides : List ℕ → List ℕ → Asked → Result Decision Fault → Type 0
-Decides file journal asked answer =
-    IsRequestOutcome (record { file = file; journal = journal }) asked (outcome_in answer)
+-- a decision is what a change comes to on a file and a journal, or it is refused so
+abbrev pub Decides : List ℕ → List ℕ → AskedChange → Result Decision Fault → Type 0
+Decides file journal change answer =
+    IsChangeOutcome (record { file = file; journal = journal }) change (outcome_in answer)
 
 -- A request comes to one outcome on two contents at most; only where `regex` may refuse a pattern of its expression or
 -- of a descriptor, that refusal may stand instead of the other answer.

@@ -1,6 +1,6 @@
--- What each request asks for: a look at the file, at its history or at what an edit made, an edit, a move through the
--- history, that old edits are forgotten, or what one of these would change. Each kind has one case in what follows, and
--- each request one row here.
+-- What each request asks for: a look at the file, at its history or at what an edit made; a change, which is an edit, a
+-- move through the history, a revert, or that old edits are forgotten; or what a change would make of the file. Each
+-- kind has one case in what follows, and each request one row here.
 use Rattle.std.specs.Prelude.{◌≡◌, ◌↔◌, ℕ, Bool, List, [], ◌∷◌, Option, Result, Ok, Err}
 use Rattle.std.specs.List.{AllZip}
 use Rattle.rec_text.specs.declared.fault.Fault.{Fault}
@@ -15,8 +15,12 @@ use Rattle.rec_tools.specs.declared.home.Which.TheVariants.{Base as TheFile, Jou
 use Rattle.rec_tools.specs.declared.request.Pick.{Pick}
 use Rattle.rec_tools.specs.declared.request.EditRequest.{EditRequest}
 use Rattle.rec_tools.specs.declared.request.EditRequest.TheVariants.{Insert, Replace, Delete, CommentOut, Set, AutoFill}
-use Rattle.rec_tools.specs.declared.request.Request.{Request, Show, Info, Check, Edit, Batch, Undo, Redo, Forget}
-use Rattle.rec_tools.specs.declared.request.Request.{Revert, History, Diff, Log, Preview'}
+use Rattle.rec_tools.specs.declared.request.Look.{Look}
+use Rattle.rec_tools.specs.declared.request.Look.TheVariants.{Show, Info, Check, History, Diff, Log}
+use Rattle.rec_tools.specs.declared.request.Change.{Change}
+use Rattle.rec_tools.specs.declared.request.Change.TheVariants.{Edit, Batch, Undo, Redo, Revert, Forget}
+use Rattle.rec_tools.specs.declared.request.Request.{Request}
+use Rattle.rec_tools.specs.declared.request.Request.TheVariants.{Look as Looks, Change as Changes, Preview as Previews}
 use Rattle.rec_check.specs.Violations.{AreViolationsOf}
 use Rattle.rec_tools.specs.Steps.{Then}
 use Rattle.rec_tools.specs.Asking.{IsFilter}
@@ -29,6 +33,18 @@ pub record Edits : Type 0 where
   pub tasks : List Task
   pub force : Bool
 
+-- what a change asks for
+pub data AskedChange : Type 1 where
+  -- these edits are made, unless they can't be told
+  editing : (Result Edits Fault → Type 0) → AskedChange
+  -- the nearest edit that way is taken back or made again; where a number is named, only if one that way has it
+  moving : Direction → Option ℕ → AskedChange
+  -- the edit of a number is taken back alone, with force or without
+  reverting : ℕ → Bool → AskedChange
+  -- all but the newest n of the edits that can be taken back are forgotten; and, or not, those that can be neither
+  -- taken back nor made again any more
+  forgetting : ℕ → Bool → AskedChange
+
 -- what a request asks for
 pub data Asked : Type 1 where
   -- this is printed of the file
@@ -39,17 +55,10 @@ pub data Asked : Type 1 where
   showing : Option ℕ → DiffStyle → Asked
   -- the history is printed, and after each edit what it made, in this style
   listing_changes : DiffStyle → Asked
-  -- these edits are made, unless they can't be told
-  editing : (Result Edits Fault → Type 0) → Asked
-  -- the nearest edit that way is taken back or made again; where a number is named, only if one that way has it
-  moving : Direction → Option ℕ → Asked
-  -- the edit of a number is taken back alone, with force or without
-  reverting : ℕ → Bool → Asked
-  -- all but the newest n of the edits that can be taken back are forgotten; and, or not, those that can be neither
-  -- taken back nor made again any more
-  forgetting : ℕ → Bool → Asked
-  -- nothing is done of what is asked for; what it would change of the file is printed, in this style
-  previewing : DiffStyle → Asked → Asked
+  -- this is changed, and nothing is printed
+  changing : AskedChange → Asked
+  -- it isn't changed; what it would make of the file is printed, in this style
+  previewing : DiffStyle → AskedChange → Asked
 
 -- ---- edits
 
@@ -106,54 +115,37 @@ HasOneAnswer text =
 
 -- ---- requests
 
+-- what a look asks for
+abbrev pub look_of : Look → Asked
+look_of (Show pick form collapse) = looking (λ file. IsShownText (IsShow file pick form collapse))
+look_of (Info record_type form) = looking (λ file. IsShownText (IsInfoOf file record_type form))
+look_of Check = looking (λ file. IsReportText (AreViolationsOf file))
+look_of History = listing
+look_of (Diff number style) = showing number style
+look_of (Log style) = listing_changes style
+
+-- what a change asks for
+abbrev pub change_of : Change → AskedChange
+change_of (Edit edit force) = editing (IsOneEdit edit force)
+change_of (Batch text force) = editing (IsBatch text force)
+change_of (Undo through) = moving Backward through
+change_of (Redo through) = moving Forward through
+change_of (Revert number force) = reverting number force
+change_of (Forget newest dropped) = forgetting newest dropped
+
 -- what a request asks for
 abbrev pub asked_of : Request → Asked
-asked_of (Show pick form collapse) = looking (λ file. IsShownText (IsShow file pick form collapse))
-asked_of (Info record_type form) = looking (λ file. IsShownText (IsInfoOf file record_type form))
-asked_of Check = looking (λ file. IsReportText (AreViolationsOf file))
-asked_of (Edit edit force) = editing (IsOneEdit edit force)
-asked_of (Batch text force) = editing (IsBatch text force)
-asked_of (Undo through) = moving Backward through
-asked_of (Redo through) = moving Forward through
-asked_of (Revert number force) = reverting number force
-asked_of (Forget newest dropped) = forgetting newest dropped
-asked_of History = listing
-asked_of (Diff number style) = showing number style
-asked_of (Log style) = listing_changes style
-asked_of (Preview' shape request style) = previewing style (asked_of request)
+asked_of (Looks look) = look_of look
+asked_of (Changes change) = changing (change_of change)
+asked_of (Previews change style) = previewing style (change_of change)
 
 -- the contents that are read for it, in this order
 abbrev pub reads_of : Asked → List Which
 reads_of (looking IsText) = TheFile ∷ []
-reads_of listing = TheFile ∷ TheJournal ∷ []
-reads_of (editing IsEdit) = TheFile ∷ TheJournal ∷ []
-reads_of (moving direction through) = TheFile ∷ TheJournal ∷ []
-reads_of (showing number style) = TheFile ∷ TheJournal ∷ []
-reads_of (listing_changes style) = TheFile ∷ TheJournal ∷ []
-reads_of (reverting number force) = TheFile ∷ TheJournal ∷ []
-reads_of (forgetting n dropping) = TheFile ∷ TheJournal ∷ []
-reads_of (previewing style asked) = reads_of asked
+reads_of _ = TheFile ∷ TheJournal ∷ []
 
--- nothing is printed for it
-abbrev pub IsSilent : Asked → Type 0
-IsSilent (looking IsText) = ⊥
-IsSilent listing = ⊥
-IsSilent (editing IsEdit) = Unit {0}
-IsSilent (moving direction through) = Unit {0}
-IsSilent (showing number style) = ⊥
-IsSilent (listing_changes style) = ⊥
-IsSilent (reverting number force) = Unit {0}
-IsSilent (forgetting n dropping) = Unit {0}
-IsSilent (previewing style asked) = ⊥
-
--- nothing is written for it
-abbrev pub WritesNothing : Asked → Type 0
-WritesNothing (looking IsText) = Unit {0}
-WritesNothing listing = Unit {0}
-WritesNothing (editing IsEdit) = ⊥
-WritesNothing (moving direction through) = ⊥
-WritesNothing (showing number style) = Unit {0}
-WritesNothing (listing_changes style) = Unit {0}
-WritesNothing (reverting number force) = ⊥
-WritesNothing (forgetting n dropping) = ⊥
-WritesNothing (previewing style asked) = Unit {0}
+-- a request that changes something, of which nothing is printed; every other one prints, and nothing is written for it
+abbrev pub IsChange : Request → Type 0
+IsChange (Looks look) = ⊥
+IsChange (Changes change) = Unit {0}
+IsChange (Previews change style) = ⊥

@@ -7,25 +7,28 @@ use Rattle.rec_journal.specs.declared.patch.Direction.{Direction}
 use Rattle.rec_journal.specs.declared.patch.Direction.TheVariants.{Forward, Backward}
 use Rattle.rec_diff.specs.declared.style.DiffStyle.{DiffStyle}
 use Rattle.rec_tools.specs.declared.home.Which.TheVariants.{Base as TheFile, Journal as TheJournal}
-use Rattle.rec_tools.specs.declared.request.Request.{Request, Undo, Redo}
+use Rattle.rec_tools.specs.declared.request.Change.{Change}
+use Rattle.rec_tools.specs.declared.request.Change.TheVariants.{Undo, Redo}
+use Rattle.rec_tools.specs.declared.request.Request.{Request}
+use Rattle.rec_tools.specs.declared.request.Request.TheVariants.{Change as Changes}
 use Rattle.rec_tools.specs.declared.request.Reply.{Reply}
 use Rattle.rec_tools.specs.declared.request.Reply.TheVariants.{Undone, Redone}
 use Rattle.rec_tools.specs.declared.through.Through.{Through}
 use Rattle.rec_tools.specs.Home.{Contents, written, Call, Went}
 use Rattle.rec_tools.specs.Printouts.{Printed, IsBoth, IsSilence}
-use Rattle.rec_tools.specs.Requests.{Asked, moving, previewing, asked_of}
-use Rattle.rec_tools.specs.Outcomes.{Outcome, IsRequestOutcome, reply_of}
+use Rattle.rec_tools.specs.Requests.{AskedChange, moving, previewing, change_of}
+use Rattle.rec_tools.specs.Outcomes.{Outcome, IsChangeOutcome, reply_of}
 use Rattle.rec_tools.specs.Attempts.{Answer, AreRead, Does, gots}
-use Rattle.rec_tools.specs.Machine.{Entry, State, IsMachineStep, entries_on, Stands}
+use Rattle.rec_tools.specs.Machine.{Entry, State, IsChangeStep, IsMachineStep, entries_on, Stands}
 
 -- a move that way, where the edit of this number lies that way
-abbrev pub move_through : Direction → ℕ → Request
+abbrev pub move_through : Direction → ℕ → Change
 move_through Backward number = Undo (Some number)
 move_through Forward number = Redo (Some number)
 
 -- one for each answer
 abbrev pub moves_through : Direction → ℕ → List Answer → List Request
-moves_through direction number answers = replicate (length answers) (move_through direction number)
+moves_through direction number answers = replicate (length answers) (Changes (move_through direction number))
 
 -- the number of the edit that was taken back or made again, if one was
 abbrev pub moved_by : Answer → Option ℕ
@@ -66,11 +69,11 @@ pub record EndsThrough (direction : Direction) (number : ℕ) (answers : List An
 
 -- ---- on the machine
 
--- the machine steps again and again by what is asked for, with these answers, and prints nothing
-abbrev pub StepsAgain : State → Asked → List Answer → State → Type 0
-StepsAgain s asked [] t = t ≡ s
-StepsAgain s asked (answer ∷ answers) t =
-    (mid : State) × IsMachineStep s asked answer [] mid × StepsAgain mid asked answers t
+-- the machine steps again and again by a change, with these answers
+abbrev pub StepsAgain : State → AskedChange → List Answer → State → Type 0
+StepsAgain s change [] t = t ≡ s
+StepsAgain s change (answer ∷ answers) t =
+    (mid : State) × IsChangeStep s change answer mid × StepsAgain mid change answers t
 
 -- entries, each with the text that it leads back to, from this text on
 abbrev pub entries_back : List ℕ → List Entry → List Entry
@@ -122,36 +125,36 @@ MovesLeadThere = (c : Contents) (direction : Direction) (number : ℕ) (s t : St
 
 -- ---- a dry run
 
--- what is asked for on the one contents would be answered so, and leave the others
-abbrev pub WouldLeave : Contents → Asked → Reply → Contents → Type 0
-WouldLeave c asked reply d = (would : Outcome) × IsRequestOutcome c asked (Ok would) × (reply ≡ would.reply)
+-- a change of the one contents would be answered so, and leave the others
+abbrev pub WouldLeave : Contents → AskedChange → Reply → Contents → Type 0
+WouldLeave c change reply d = (would : Outcome) × IsChangeOutcome c change (Ok would) × (reply ≡ would.reply)
     × (d ≡ written c would.writes)
 
--- On contents in memory what is asked for is previewed, with this answer; and again on those that it would leave, as
--- far as the last ones. What is printed is what each preview prints, one after another.
-abbrev pub PreviewsAgain : DiffStyle → Asked → Contents → List Answer → Printed → Contents → Type 0
-PreviewsAgain style asked c [] p last = IsSilence p × (last ≡ c)
-PreviewsAgain style asked c (answer ∷ answers) p last = (d : Contents) × (first rest : Printed) × IsBoth p first rest
-    × Does c (previewing style asked) answer (gots c (TheFile ∷ TheJournal ∷ [])) first
-    × IfOk answer (λ reply. WouldLeave c asked reply d) × PreviewsAgain style asked d answers rest last
+-- On contents in memory a change is previewed, with this answer; and again on those that it would leave, as far as the
+-- last ones. What is printed is what each preview prints, one after another.
+abbrev pub PreviewsAgain : DiffStyle → AskedChange → Contents → List Answer → Printed → Contents → Type 0
+PreviewsAgain style change c [] p last = IsSilence p × (last ≡ c)
+PreviewsAgain style change c (answer ∷ answers) p last = (d : Contents) × (first rest : Printed) × IsBoth p first rest
+    × Does c (previewing style change) answer (gots c (TheFile ∷ TheJournal ∷ [])) first
+    × IfOk answer (λ reply. WouldLeave c change reply d) × PreviewsAgain style change d answers rest last
 
 -- so it is on both contents, as they were read; or they couldn't be read, and that is the answer
-abbrev pub PreviewsRead : DiffStyle → Asked → Result (List ℕ × List ℕ) Fault → List Answer → Printed → Type 0
-PreviewsRead style asked (Ok (file, journal)) answers p =
-    (last : Contents) × PreviewsAgain style asked (record { file = file; journal = journal }) answers p last
-PreviewsRead style asked (Err fault) answers p = (answers ≡ Err fault ∷ []) × IsSilence p
+abbrev pub PreviewsRead : DiffStyle → AskedChange → Result (List ℕ × List ℕ) Fault → List Answer → Printed → Type 0
+PreviewsRead style change (Ok (file, journal)) answers p =
+    (last : Contents) × PreviewsAgain style change (record { file = file; journal = journal }) answers p last
+PreviewsRead style change (Err fault) answers p = (answers ≡ Err fault ∷ []) × IsSilence p
 
 -- by calls that read both contents, and no others, the one home became the other
 abbrev pub PreviewsThrough : {H : Type 0} → (H → Call → H → Type 0) → H → H → DiffStyle → Direction → ℕ → List Answer
     → Printed → Type 0
 PreviewsThrough goes old new style direction number answers p = (read : Result (List ℕ × List ℕ) Fault)
     × (calls : List Call) × Went goes old calls new × AreRead read calls
-    × PreviewsRead style (asked_of (move_through direction number)) read answers p
+    × PreviewsRead style (change_of (move_through direction number)) read answers p
 
--- the machine would step again and again by what is asked for, with these answers; what is printed is what it prints
--- for the preview of each step, one after another
-abbrev pub PreviewSteps : DiffStyle → State → Asked → List Answer → List ℕ → State → Type 0
-PreviewSteps style s asked [] printed t = (printed ≡ []) × (t ≡ s)
-PreviewSteps style s asked (answer ∷ answers) printed t = (mid : State) × (first rest : List ℕ)
-    × (printed ≡ first ++ rest) × IsMachineStep s (previewing style asked) answer first s
-    × IsMachineStep s asked answer [] mid × PreviewSteps style mid asked answers rest t
+-- the machine would step again and again by a change, with these answers; what is printed is what it prints for the
+-- preview of each step, one after another
+abbrev pub PreviewSteps : DiffStyle → State → AskedChange → List Answer → List ℕ → State → Type 0
+PreviewSteps style s change [] printed t = (printed ≡ []) × (t ≡ s)
+PreviewSteps style s change (answer ∷ answers) printed t = (mid : State) × (first rest : List ℕ)
+    × (printed ≡ first ++ rest) × IsMachineStep s (previewing style change) answer first s
+    × IsChangeStep s change answer mid × PreviewSteps style mid change answers rest t

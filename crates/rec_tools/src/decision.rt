@@ -3,8 +3,9 @@ ghost use Rattle.std.specs.Prelude.{◌≡◌, Some, Ok, IfOk, IfErr, if◌then�
 ghost use Rattle.rec_text.specs.Elements.{text_of};
 ghost use Rattle.rec_text.specs.Faults.{UnlessMemory};
 ghost use Rattle.rec_journal.specs.History.{IsOpening, lost_edits};
+ghost use Rattle.rec_journal.specs.Plans.{nothing_there};
 ghost use Rattle.rec_tools.specs.Steps.{IsRefusal};
-ghost use Rattle.rec_tools.specs.Requests.{editing, moving, reverting, forgetting, asked_of, IsSilent};
+ghost use Rattle.rec_tools.specs.Requests.{editing, moving, reverting, forgetting, change_of};
 ghost use Rattle.rec_tools.specs.Outcomes.{IsMade, IsEditOutcome, Decides, outcome_in, reply_of};
 ghost use Rattle.rec_tools.specs.declared.decision.Decision.TheVariants.{Put};
 ghost use Rattle.rec_tools.specs.proving.Courses.{HasCourse};
@@ -13,7 +14,7 @@ ghost use Rattle.rec_tools.specs.proving.Editing.{AreEditsFrom, HasSteps};
 use crate::batches::batch_edits;
 use crate::editing::make;
 use crate::history::history_of;
-use crate::request::{EditRequest, Reply, Request};
+use crate::request::{Change, EditRequest, Reply};
 use crate::reverting::reverted;
 use crate::telling::{refused_move, refused_on};
 use rec_check::RecFile;
@@ -27,7 +28,7 @@ use std::slice;
 
 /// The new text of a file, and the steps by which the file leads there, forward, or from which it leads back.
 #[derive(Drop)]
-pub struct Change {
+pub struct NewFile {
     pub text: Bytes,
     pub direction: Direction,
     pub steps: EditSteps,
@@ -39,7 +40,7 @@ pub enum Decision {
     Stay(Reply),
     Put {
         journal: Bytes,
-        file: Option<Change>,
+        file: Option<NewFile>,
         reply: Reply,
     },
 }
@@ -47,11 +48,11 @@ pub enum Decision {
 impl Decision {
     ghost use Rattle.std.specs.Prelude.{◌≡◌, option_copied};
     ghost use Rattle.rec_tools.specs.Outcomes.{reply_in};
-    ghost use Rattle.rec_tools.specs.proving.Courses.{change_in};
+    ghost use Rattle.rec_tools.specs.proving.Courses.{new_file_in};
 
-    /// What changes of the file, if anything.
-    pub(crate) fn change(&self) -> Option<&Change>
-        ensures { option_copied result ≡ change_in self.now }
+    /// The new file, if there is one.
+    pub(crate) fn new_file(&self) -> Option<&NewFile>
+        ensures { option_copied result ≡ new_file_in self.now }
     {
         match self {
             Decision::Stay(_) => None,
@@ -78,7 +79,7 @@ fn put_plan(plan: Plan, direction: Direction, steps: EditSteps, reply: Reply) ->
     let Plan { journal, file } = plan;
     Decision::Put {
         journal,
-        file: Some(Change {
+        file: Some(NewFile {
             text: file,
             direction,
             steps,
@@ -234,6 +235,16 @@ fn reply_of(direction: Direction, number: usize, tool: Tool) -> Reply
     }
 }
 
+/// The refusal where no edit lies that way.
+fn nothing_there(direction: Direction) -> Fault
+    ensures { result ≡ nothing_there direction }
+{
+    match direction {
+        Direction::Backward => Fault::NothingToUndo,
+        Direction::Forward => Fault::NothingToRedo,
+    }
+}
+
 /// Decides a move on a file and a journal: back it is an undo, forward a redo.
 fn decide_move(
     alloc: Global,
@@ -259,7 +270,7 @@ fn decide_move(
     let reply = reply_of(direction, number, tool);
     match history.into_steps(direction) {
         Some(steps) => Ok(put_plan(plan, direction, steps, reply)),
-        None => unreachable!(),
+        None => Err(Refusal::from(nothing_there(direction))),
     }
 }
 
@@ -301,42 +312,32 @@ fn decide_forgetting(
     })
 }
 
-/// Decides a request that prints nothing, on a file and a journal.
+/// Decides a change of a file and a journal.
 pub fn decide(
     alloc: Global,
     file: &[u8],
     journal: &[u8],
-    request: &Request,
+    change: &Change,
 ) -> Result<Decision, Refusal>
-    requires { IsSilent (asked_of request.now) }
-    ensures found { UnlessMemory result (Decides file.now journal.now (asked_of request.now)) }
+    ensures found { UnlessMemory result (Decides file.now journal.now (change_of change.now)) }
 
     // A new file comes of an edit that is made or taken back, by these steps.
     ensures course { IfOk result (HasCourse file.now journal.now) }
     ensures refusals { IfErr result IsRefusal }
 {
-    match request {
-        Request::Edit { edit, force } => {
+    match change {
+        Change::Edit { edit, force } => {
             decide_edit(alloc, file, journal, Source::OneEdit(edit), *force)
         }
-        Request::Batch { text, force } => {
+        Change::Batch { text, force } => {
             let text = text.as_slice();
             decide_edit(alloc, file, journal, Source::Listed(text), *force)
         }
-        Request::Undo(through) => decide_move(alloc, file, journal, Direction::Backward, *through),
-        Request::Redo(through) => decide_move(alloc, file, journal, Direction::Forward, *through),
-        Request::Revert { number, force } => {
-            decide_revert(alloc, file, journal, *number, *force)
-        }
-        Request::Forget { newest, dropped } => {
+        Change::Undo(through) => decide_move(alloc, file, journal, Direction::Backward, *through),
+        Change::Redo(through) => decide_move(alloc, file, journal, Direction::Forward, *through),
+        Change::Revert { number, force } => decide_revert(alloc, file, journal, *number, *force),
+        Change::Forget { newest, dropped } => {
             decide_forgetting(alloc, file, journal, *newest as usize, *dropped)
         }
-        Request::Show { .. }
-        | Request::Info { .. }
-        | Request::Check
-        | Request::History
-        | Request::Diff(_, _)
-        | Request::Log(_)
-        | Request::Preview(_, _) => unreachable!(),
     }
 }

@@ -2,7 +2,7 @@
 ghost use Rattle.std.specs.Prelude.{◌≡◌, List, [], ◌∷◌, ◌++◌, Some, IfOk, IfSome};
 ghost use Rattle.rec_tools.specs.Home.{written};
 ghost use Rattle.rec_tools.specs.Printouts.{Printed, WentOut};
-ghost use Rattle.rec_tools.specs.Requests.{moving, asked_of, IsSilent};
+ghost use Rattle.rec_tools.specs.Requests.{moving, change_of};
 ghost use Rattle.rec_tools.specs.Outcomes.{outcome_of, reply_in};
 ghost use Rattle.rec_tools.specs.Attempts.{Answer};
 ghost use Rattle.rec_tools.specs.Machine.{State, Stands};
@@ -10,10 +10,10 @@ ghost use Rattle.rec_tools.specs.Through.{move_through, answers_of, EndsThrough,
 ghost use Rattle.rec_tools.specs.proving.Courses.{contents};
 ghost use Rattle.rec_tools.specs.proving.Moving.{turned, GoesDry, IsDryMove};
 
-use crate::decision::{Change, Decision};
+use crate::decision::{Decision, NewFile};
 use crate::home::Home;
 use crate::preview::print_decision;
-use crate::request::{Reply, Request};
+use crate::request::{Change, Reply};
 use crate::runner::read_both;
 use crate::through::{Through, leads_on, move_through, moved_by};
 use rec_diff::DiffStyle;
@@ -21,20 +21,20 @@ use rec_journal::Direction;
 use rec_text::{Bytes, Refusal, Sink};
 use std::alloc::Global;
 
-/// The new text of a file.
-fn text_in(change: Change) -> Bytes
-    ensures { result ≡ change.text }
+/// The text of a new file.
+fn text_in(file: NewFile) -> Bytes
+    ensures { result ≡ file.text }
 {
-    let Change { text, .. } = change;
+    let NewFile { text, .. } = file;
     text
 }
 
-/// Makes a file what a change makes of it, if there is one.
-fn turn(file: &mut Bytes, change: Option<Change>)
-    ensures { file.new ≡ turned file.old change }
+/// Makes a file the new one, if there is one.
+fn turn(file: &mut Bytes, new: Option<NewFile>)
+    ensures { file.new ≡ turned file.old new }
 {
-    match change {
-        Some(change) => *file = text_in(change),
+    match new {
+        Some(new) => *file = text_in(new),
         None => {}
     }
 }
@@ -49,34 +49,33 @@ fn leave(decision: Decision, file: &mut Bytes, journal: &mut Bytes) -> Reply
         Decision::Stay(reply) => reply,
         Decision::Put {
             journal: put,
-            file: change,
+            file: new,
             reply,
         } => {
             *journal = put;
-            turn(file, change);
+            turn(file, new);
             reply
         }
     }
 }
 
-/// Prints what a request would change that prints nothing itself, and makes both contents what it would leave.
+/// Prints what a change would make of a file, and makes both contents what it would leave.
 fn preview_on<S: Sink>(
     alloc: Global,
     file: &mut Bytes,
     journal: &mut Bytes,
     out: &mut S,
-    request: &Request,
+    change: &Change,
     style: &DiffStyle,
 ) -> Result<Reply, Refusal>
-    requires { IsSilent (asked_of request.now) }
-    ensures { IsDryMove S.contents S.failure_count style.now (asked_of request.now)
+    ensures { IsDryMove S.contents S.failure_count style.now (change_of change.now)
         (contents file.old journal.old) (contents file.new journal.new) out.old out.new result }
 {
     let decision = print_decision(
         alloc,
         file.as_slice(),
         journal.as_slice(),
-        request,
+        change,
         style,
         out,
     )?;
@@ -93,11 +92,11 @@ fn preview_once<S: Sink>(
     number: usize,
     style: &DiffStyle,
 ) -> Result<Reply, Refusal>
-    ensures { IsDryMove S.contents S.failure_count style.now (asked_of (move_through direction number))
+    ensures { IsDryMove S.contents S.failure_count style.now (change_of (move_through direction number))
         (contents file.old journal.old) (contents file.new journal.new) out.old out.new result }
 {
-    let request = move_through(direction, number);
-    preview_on(alloc, file, journal, out, &request, style)
+    let change = move_through(direction, number);
+    preview_on(alloc, file, journal, out, &change, style)
 }
 
 /// The moves of `preview_through`.

@@ -1,58 +1,57 @@
-//! Prints what a request would change, without doing it.
+//! Prints what a change would make of the file, without doing it.
 ghost use Rattle.std.specs.Prelude.{Ok, IfOk, IfErr, option_copied};
 ghost use Rattle.rec_text.specs.Faults.{IsOkUnlessEither};
 ghost use Rattle.rec_select.specs.Taken.{PrintsAndCounts, Puts};
 ghost use Rattle.rec_tools.specs.Steps.{IsRefusal};
 ghost use Rattle.rec_tools.specs.Printouts.{PutsPrintout};
-ghost use Rattle.rec_tools.specs.Requests.{asked_of, IsSilent};
+ghost use Rattle.rec_tools.specs.Requests.{change_of};
 ghost use Rattle.rec_tools.specs.Outcomes.{Decides};
-ghost use Rattle.rec_tools.specs.proving.Courses.{LeadsFromFile, IsTextOfChange, IsPreviewed, replied};
+ghost use Rattle.rec_tools.specs.proving.Courses.{LeadsFromFile, IsTextOf, IsPreviewed, replied};
 
-use crate::decision::{Change, Decision, decide};
-use crate::request::Request;
+use crate::decision::{Decision, NewFile, decide};
+use crate::request::Change;
 use rec_diff::{DiffStyle, write_diff};
 use rec_text::{Fault, Refusal, Sink};
 use std::alloc::Global;
 
-/// Prints what a change makes of a file, as a diff; of none nothing.
-fn write_change<S: Sink>(
+/// Prints what becomes of a file, as a diff; where there is no new one, nothing.
+fn write_new<S: Sink>(
     alloc: Global,
     file: &[u8],
-    change: Option<&Change>,
+    new: Option<&NewFile>,
     style: &DiffStyle,
     out: &mut S,
 ) -> Result<(), Fault>
-    requires { LeadsFromFile file.now (option_copied change) }
+    requires { LeadsFromFile file.now (option_copied new) }
     ensures written { PrintsAndCounts S.contents S.failure_count out.old out.new
-        (Puts (IsTextOfChange style.now file.now (option_copied change.entry))) result }
+        (Puts (IsTextOf style.now file.now (option_copied new.entry))) result }
     ensures refusals { IsOkUnlessEither result Fault.OutOfMemory Fault.StoreFailed }
 {
-    match change {
-        Some(change) => {
-            let steps = change.steps.as_slice();
-            let text = change.text.as_slice();
-            write_diff(alloc, out, style, change.direction, steps, file, text)
+    match new {
+        Some(new) => {
+            let steps = new.steps.as_slice();
+            let text = new.text.as_slice();
+            write_diff(alloc, out, style, new.direction, steps, file, text)
         }
         None => Ok(()),
     }
 }
 
-/// Prints what a request would change that prints nothing itself, as a diff, and gives the decision.
+/// Prints what a change would make of a file, as a diff, and gives the decision.
 pub(crate) fn print_decision<S: Sink>(
     alloc: Global,
     file: &[u8],
     journal: &[u8],
-    previewed: &Request,
+    change: &Change,
     style: &DiffStyle,
     out: &mut S,
 ) -> Result<Decision, Refusal>
-    requires { IsSilent (asked_of previewed.now) }
     ensures written { PrintsAndCounts S.contents S.failure_count out.old out.new
-        (PutsPrintout (IsPreviewed style.now file.now journal.now (asked_of previewed.now))) (replied result) }
-    ensures found { IfOk result (λ decision. Decides file.now journal.now (asked_of previewed.now) (Ok decision)) }
+        (PutsPrintout (IsPreviewed style.now file.now journal.now (change_of change.now))) (replied result) }
+    ensures found { IfOk result (λ decision. Decides file.now journal.now (change_of change.now) (Ok decision)) }
     ensures refusals { IfErr result IsRefusal }
 {
-    let decision = decide(alloc, file, journal, previewed)?;
-    write_change(alloc, file, decision.change(), style, out)?;
+    let decision = decide(alloc, file, journal, change)?;
+    write_new(alloc, file, decision.new_file(), style, out)?;
     Ok(decision)
 }

@@ -118,9 +118,9 @@ impl EditRequest {
     }
 }
 
-/// A request on a file and its journal.
+/// What is printed of a file and its journal, of which nothing is changed.
 #[derive(Drop)]
-pub enum Request {
+pub enum Look {
     /// Prints records. With `collapse` no empty line stands between them.
     Show {
         pick: Pick,
@@ -134,34 +134,6 @@ pub enum Request {
     },
     /// Reports where the file breaks the rules of its record sets.
     Check,
-    /// Makes an edit. Only with `force` may the file break the rules of its record sets afterwards.
-    Edit {
-        edit: EditRequest,
-        force: bool,
-    },
-    /// Makes the edits that a rec text lists, one after another, as one edit. Only with `force` may one of them delete all
-    /// records of a set, and may the file break the rules of its record sets after the last.
-    Batch {
-        text: Bytes,
-        force: bool,
-    },
-    /// Takes the newest edit back, where a number is named only if the edit of that number can be taken back too.
-    Undo(Option<usize>),
-    /// Makes the edit that was taken back last again, where a number is named only if the edit of that number can be made
-    /// again too.
-    Redo(Option<usize>),
-    /// Takes the edit of this number back and leaves the later ones, as an edit of its own. Only with `force` may the file break
-    /// the rules of its record sets afterwards.
-    Revert {
-        number: usize,
-        force: bool,
-    },
-    /// Forgets all but the newest of the edits that can be taken back; those that can be made again stay. With `dropped`
-    /// the edits go too that can be neither taken back nor made again any more.
-    Forget {
-        newest: u32,
-        dropped: bool,
-    },
     /// Prints the edits: those that stand, the oldest first, and then those that can be made again, the nearest first; or
     /// that the file was changed outside.
     History,
@@ -169,34 +141,36 @@ pub enum Request {
     Diff(Option<usize>, DiffStyle),
     /// Prints the edits as for `History`, and after each of them what it made.
     Log(DiffStyle),
-    /// Prints what a request would change, as a diff, and does nothing.
-    Preview(Box<Request>, DiffStyle),
 }
 
-impl Request {
-    ghost use Rattle.rec_tools.specs.Requests.{asked_of};
-    ghost use Rattle.rec_tools.specs.proving.Silently.{PrintsOrWrites};
+/// What is done to a file and its journal, of which nothing is printed.
+#[derive(Drop)]
+pub enum Change {
+    /// Makes an edit. Only with `force` may the file break the rules of its record sets afterwards.
+    Edit { edit: EditRequest, force: bool },
+    /// Makes the edits that a rec text lists, one after another, as one edit. Only with `force` may one of them delete all
+    /// records of a set, and may the file break the rules of its record sets after the last.
+    Batch { text: Bytes, force: bool },
+    /// Takes the newest edit back, where a number is named only if the edit of that number can be taken back too.
+    Undo(Option<usize>),
+    /// Makes the edit that was taken back last again, where a number is named only if the edit of that number can be made
+    /// again too.
+    Redo(Option<usize>),
+    /// Takes the edit of this number back and leaves the later ones, as an edit of its own. Only with `force` may the file break
+    /// the rules of its record sets afterwards.
+    Revert { number: usize, force: bool },
+    /// Forgets all but the newest of the edits that can be taken back; those that can be made again stay. With `dropped`
+    /// the edits go too that can be neither taken back nor made again any more.
+    Forget { newest: u32, dropped: bool },
+}
 
-    /// Whether nothing is printed for it; else nothing is written.
-    pub(crate) fn prints_nothing(&self) -> bool
-        ensures { PrintsOrWrites (asked_of self.now) result }
-    {
-        match self {
-            Request::Edit { .. }
-            | Request::Batch { .. }
-            | Request::Undo(_)
-            | Request::Redo(_)
-            | Request::Revert { .. }
-            | Request::Forget { .. } => true,
-            Request::Show { .. }
-            | Request::Info { .. }
-            | Request::Check
-            | Request::History
-            | Request::Diff(_, _)
-            | Request::Log(_)
-            | Request::Preview(_, _) => false,
-        }
-    }
+/// A request on a file and its journal.
+#[derive(Drop)]
+pub enum Request {
+    Look(Look),
+    Change(Change),
+    /// Prints what a change would make of the file, as a diff, and does nothing.
+    Preview(Change, DiffStyle),
 }
 
 /// The answer to a request that isn't refused.

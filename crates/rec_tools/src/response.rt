@@ -2,7 +2,7 @@
 ghost use Rattle.std.specs.Prelude.{◌≡◌};
 ghost use Rattle.rec_tools.specs.proving.Courses.{replied};
 
-use crate::decision::{Change, Decision};
+use crate::decision::{Decision, NewFile};
 use crate::request::Reply;
 use rec_text::{Bytes, Refusal};
 use std::marker::Model;
@@ -44,14 +44,14 @@ impl Response {
     pub(crate) fn of_change(
         reply: Reply,
         file: Bytes,
-        change: Option<Change>,
+        after: Option<NewFile>,
         journal: Option<Bytes>,
     ) -> Response
         ensures { result ≡ reply }
     {
         let texts = Texts {
             file,
-            after: text_after(change),
+            after: text_after(after),
             journal,
         };
         Response::of_texts(reply, Some(texts))
@@ -79,10 +79,10 @@ impl From<Reply> for Response {
     }
 }
 
-/// The text that a change makes of a file, if there is one.
-fn text_after(change: Option<Change>) -> Option<Bytes> {
-    match change {
-        Some(Change { text, .. }) => Some(text),
+/// The text of a new file, if there is one.
+fn text_after(file: Option<NewFile>) -> Option<Bytes> {
+    match file {
+        Some(NewFile { text, .. }) => Some(text),
         None => None,
     }
 }
@@ -96,10 +96,10 @@ pub(crate) fn decided(decision: Result<Decision, Refusal>, file: Bytes) -> Resul
         Ok(
             Decision::Put {
                 journal,
-                file: change,
+                file: after,
                 reply,
             },
-        ) => Ok(Response::of_change(reply, file, change, Some(journal))),
+        ) => Ok(Response::of_change(reply, file, after, Some(journal))),
         Err(refusal) => Err(refusal),
     }
 }

@@ -4,24 +4,22 @@ ghost use Rattle.std.specs.Prelude.{option_copied, option_map};
 ghost use Rattle.std.specs.List.{AllByRecursion};
 ghost use Rattle.rec_text.specs.Faults.{IsOkUnlessEither};
 ghost use Rattle.rec_journal.specs.History.{IsRegular};
-ghost use Rattle.rec_diff.specs.declared.style.DiffStyle.{DiffStyle as StyleOf};
 ghost use Rattle.rec_tools.specs.Home.{Call, HasFailed, left_by_all, Rose, WentOn};
 ghost use Rattle.rec_tools.specs.Steps.{IsRefusal};
 ghost use Rattle.rec_tools.specs.Printouts.{Printed, WentOut};
-ghost use Rattle.rec_tools.specs.Requests.{listing, showing, listing_changes, previewing, asked_of, IsSilent, WritesNothing};
+ghost use Rattle.rec_tools.specs.Requests.{listing, showing, listing_changes, changing, previewing, look_of, change_of, asked_of, IsChange};
 ghost use Rattle.rec_tools.specs.Outcomes.{outcome_of};
 ghost use Rattle.rec_tools.specs.Attempts.{AreRead, IsAnswered, IsCutShort, Attempts, AttemptsAll};
 ghost use Rattle.rec_tools.specs.Machine.{State, Stands};
 ghost use Rattle.rec_tools.specs.Guarantee.{RunsAsMachine};
-ghost use Rattle.rec_tools.specs.proving.Silently.{ByCalls, DoesSilently, IsLook};
+ghost use Rattle.rec_tools.specs.proving.Silently.{ByCalls, DoesSilently};
 
-use crate::decision::{Change, Decision, decide};
+use crate::decision::{Decision, NewFile, decide};
 use crate::history::print_history;
 use crate::home::{Home, Which};
-use crate::nowhere::Nowhere;
 use crate::preview::print_decision;
 use crate::printing::{check, inform, show};
-use crate::request::{Reply, Request};
+use crate::request::{Change, Look, Reply, Request};
 use crate::response::{Response, Texts, decided, with_texts, without_texts};
 use crate::showing::{print_edit, print_log};
 use rec_diff::DiffStyle;
@@ -39,11 +37,11 @@ pub(crate) fn read_both<H: Home>(alloc: Global, home: &mut H) -> Result<(Bytes, 
 }
 
 /// The bytes of a new file, if there is one.
-fn slice_of(file: &Option<Change>) -> Option<&[u8]>
-    ensures { option_copied result ≡ option_map (λ change. change.text) file.now }
+fn slice_of(file: &Option<NewFile>) -> Option<&[u8]>
+    ensures { option_copied result ≡ option_map (λ new. new.text) file.now }
 {
     match file {
-        Some(change) => Some(change.text.as_slice()),
+        Some(new) => Some(new.text.as_slice()),
         None => None,
     }
 }
@@ -57,23 +55,26 @@ fn carry_out<H: Home>(home: &mut H, decision: Decision, file: Bytes) -> Result<R
         Decision::Stay(reply) => Ok(Response::of_change(reply, file, None, None)),
         Decision::Put {
             journal,
-            file: change,
+            file: new,
             reply,
         } => {
-            home.put(journal.as_slice(), slice_of(&change))?;
-            Ok(Response::of_change(reply, file, change, Some(journal)))
+            home.put(journal.as_slice(), slice_of(&new))?;
+            Ok(Response::of_change(reply, file, new, Some(journal)))
         }
     }
 }
 
-/// Reads both contents, decides a request that prints nothing, and puts its plan in place.
-fn make_change<H: Home>(alloc: Global, home: &mut H, request: &Request) -> Result<Response, Refusal>
-    requires { IsSilent (asked_of request.now) }
-    ensures attempts { DoesSilently H.goes home.old home.new (asked_of request.now) result }
+/// Reads both contents, decides a change, and puts its plan in place.
+pub(crate) fn make_change<H: Home>(
+    alloc: Global,
+    home: &mut H,
+    change: &Change,
+) -> Result<Response, Refusal>
+    ensures attempts { DoesSilently H.goes home.old home.new (changing (change_of change.now)) result }
     ensures refusals { IfErr result IsRefusal }
 {
     let (file, journal) = read_both(alloc, home)?;
-    let decision = decide(alloc, file.as_slice(), journal.as_slice(), request)?;
+    let decision = decide(alloc, file.as_slice(), journal.as_slice(), change)?;
     carry_out(home, decision, file)
 }
 
@@ -132,17 +133,16 @@ fn tell_log<H: Home, S: Sink>(
     print_log(alloc, file.as_slice(), journal.as_slice(), style, out)
 }
 
-/// Reads both contents, and prints what a request would change.
+/// Reads both contents, and prints what a change would make of the file.
 fn tell_preview<H: Home, S: Sink>(
     alloc: Global,
     home: &mut H,
     out: &mut S,
-    previewed: &Request,
+    change: &Change,
     style: &DiffStyle,
 ) -> Result<Response, Refusal>
-    requires { IsSilent (asked_of previewed.now) }
     ensures attempts { (calls : List Call) × (p : Printed) × WentOut S.contents S.failure_count out.old out.new p
-        × Attempts H.goes home.old home.new (previewing style.now (asked_of previewed.now)) result calls p }
+        × Attempts H.goes home.old home.new (previewing style.now (change_of change.now)) result calls p }
     ensures counted { S.failure_count out.old ≤ S.failure_count out.new }
     ensures refusals { IfErr result IsRefusal }
 {
@@ -151,7 +151,7 @@ fn tell_preview<H: Home, S: Sink>(
         alloc,
         file.as_slice(),
         journal.as_slice(),
-        previewed,
+        change,
         style,
         out,
     );
@@ -159,20 +159,19 @@ fn tell_preview<H: Home, S: Sink>(
 }
 
 /// Reads the contents that a look needs, and prints.
-fn look<H: Home, S: Sink>(
+fn tell<H: Home, S: Sink>(
     alloc: Global,
     home: &mut H,
     out: &mut S,
-    request: &Request,
+    look: &Look,
 ) -> Result<Response, Refusal>
-    requires { IsLook request.now }
     ensures attempts { (calls : List Call) × (p : Printed) × WentOut S.contents S.failure_count out.old out.new p
-        × Attempts H.goes home.old home.new (asked_of request.now) result calls p }
+        × Attempts H.goes home.old home.new (look_of look.now) result calls p }
     ensures counted { S.failure_count out.old ≤ S.failure_count out.new }
     ensures refusals { IfErr result IsRefusal }
 {
-    match request {
-        Request::Show {
+    match look {
+        Look::Show {
             pick,
             form,
             collapse,
@@ -181,12 +180,12 @@ fn look<H: Home, S: Sink>(
             let told = show(alloc, file.as_slice(), pick, form, *collapse, out);
             with_texts(told, None)
         }
-        Request::Info { kind, form } => {
+        Look::Info { kind, form } => {
             let file = home.read(alloc, Which::Base)?;
             let told = inform(alloc, file.as_slice(), kind, *form, out);
             with_texts(told, None)
         }
-        Request::Check => {
+        Look::Check => {
             let file = home.read(alloc, Which::Base)?;
             let told = check(alloc, file.as_slice(), out);
             let texts = Texts {
@@ -196,69 +195,10 @@ fn look<H: Home, S: Sink>(
             };
             with_texts(told, Some(texts))
         }
-        Request::History => with_texts(tell_history(alloc, home, out), None),
-        Request::Diff(number, style) => with_texts(
-            tell_edit(alloc, home, out, *number, style),
-            None,
-        ),
-        Request::Log(style) => with_texts(tell_log(alloc, home, out, style), None),
-        Request::Edit { .. }
-        | Request::Batch { .. }
-        | Request::Undo(_)
-        | Request::Redo(_)
-        | Request::Revert { .. }
-        | Request::Forget { .. }
-        | Request::Preview(_, _) => unreachable!(),
+        Look::History => with_texts(tell_history(alloc, home, out), None),
+        Look::Diff(number, style) => with_texts(tell_edit(alloc, home, out, *number, style), None),
+        Look::Log(style) => with_texts(tell_log(alloc, home, out, style), None),
     }
-}
-
-/// The reply to a request that writes nothing, of which nothing is printed.
-fn reply_alone<H: Home>(alloc: Global, home: &mut H, request: &Request) -> Result<Response, Refusal>
-    requires { WritesNothing (asked_of request.now) }
-    ensures attempts { (style : StyleOf)
-        → DoesSilently H.goes home.old home.new (previewing style (asked_of request.now)) result }
-    ensures refusals { IfErr result IsRefusal }
-{
-    match request {
-        Request::Preview(boxed, style) => {
-            let previewed: &Request = boxed;
-            if previewed.prints_nothing() {
-                return tell_preview(alloc, home, &mut Nowhere, previewed, style);
-            }
-            reply_alone(alloc, home, previewed)
-        }
-        Request::Show { .. }
-        | Request::Info { .. }
-        | Request::Check
-        | Request::History
-        | Request::Diff(_, _)
-        | Request::Log(_) => look(alloc, home, &mut Nowhere, request),
-        Request::Edit { .. }
-        | Request::Batch { .. }
-        | Request::Undo(_)
-        | Request::Redo(_)
-        | Request::Revert { .. }
-        | Request::Forget { .. } => unreachable!(),
-    }
-}
-
-/// Prints what a request would change; of one that changes nothing no more than the reply is given.
-fn preview<H: Home, S: Sink>(
-    alloc: Global,
-    home: &mut H,
-    out: &mut S,
-    previewed: &Request,
-    style: &DiffStyle,
-) -> Result<Response, Refusal>
-    ensures attempts { (calls : List Call) × (p : Printed) × WentOut S.contents S.failure_count out.old out.new p
-        × Attempts H.goes home.old home.new (previewing style.now (asked_of previewed.now)) result calls p }
-    ensures counted { S.failure_count out.old ≤ S.failure_count out.new }
-    ensures refusals { IfErr result IsRefusal }
-{
-    if previewed.prints_nothing() {
-        return tell_preview(alloc, home, out, previewed, style);
-    }
-    reply_alone(alloc, home, previewed)
 }
 
 /// Reads the contents that a request needs, and prints, or decides and puts a plan in place.
@@ -272,22 +212,12 @@ fn attempt<H: Home, S: Sink>(
         × Attempts H.goes home.old home.new (asked_of request.now) result calls p }
     ensures counted { S.failure_count out.old ≤ S.failure_count out.new }
     ensures refusals { IfErr result IsRefusal }
-    ensures silent { IsSilent (asked_of request.now) → out.new ≡ out.old }
+    ensures silent { IsChange request.now → out.new ≡ out.old }
 {
     match request {
-        Request::Edit { .. }
-        | Request::Batch { .. }
-        | Request::Undo(_)
-        | Request::Redo(_)
-        | Request::Revert { .. }
-        | Request::Forget { .. } => make_change(alloc, home, request),
-        Request::Preview(previewed, style) => preview(alloc, home, out, previewed, style),
-        Request::Show { .. }
-        | Request::Info { .. }
-        | Request::Check
-        | Request::History
-        | Request::Diff(_, _)
-        | Request::Log(_) => look(alloc, home, out, request),
+        Request::Look(look) => tell(alloc, home, out, look),
+        Request::Change(change) => make_change(alloc, home, change),
+        Request::Preview(change, style) => tell_preview(alloc, home, out, change, style),
     }
 }
 
@@ -304,7 +234,7 @@ pub fn run<H: Home, S: Sink>(
         × Attempts H.goes home.old home.new (asked_of request.now) result calls p }
     ensures counted { S.failure_count out.old ≤ S.failure_count out.new }
     ensures refusals { IfErr result IsRefusal }
-    ensures silent { IsSilent (asked_of request.now) → out.new ≡ out.old }
+    ensures silent { IsChange request.now → out.new ≡ out.old }
 
     // Any answer but that a store failed keeps the counts of failures.
     ensures kept { IsErrOf result Fault.StoreFailed
@@ -319,11 +249,11 @@ pub fn run<H: Home, S: Sink>(
     ensures stopped { IfSome (H.contents home.old) (λ c. IsErrOf result Fault.StoreFailed
         → (H.contents home.new ≡ Some c) ⊎ IsCutShort c (asked_of request.now) (H.contents home.new)) }
 
-    // After any refusal but a failed store both contents are as before; so they are after every request that writes nothing.
+    // After any refusal but a failed store both contents are as before; so they are after every request that is no change.
     ensures unchanged { IfSome (H.contents home.old) (λ c.
         IfErr result (λ fault. (fault ≡ Fault.StoreFailed) ⊎ (H.contents home.new ≡ Some c))) }
     ensures looks { IfSome (H.contents home.old) (λ c.
-        WritesNothing (asked_of request.now) → H.contents home.new ≡ Some c) }
+        ¬ IsChange request.now → H.contents home.new ≡ Some c) }
 {
     attempt(alloc, home, out, request)
 }
@@ -358,7 +288,7 @@ pub fn run_all<H: Home, S: Sink>(
     ensures unreserved { IfErr result (λ fault.
         (fault ≡ Fault.OutOfMemory) × (home.new ≡ home.old) × (out.new ≡ out.old)) }
     ensures counted { S.failure_count out.old ≤ S.failure_count out.new }
-    ensures silent { AllByRecursion (λ request. IsSilent (asked_of request)) requests.now → out.new ≡ out.old }
+    ensures silent { AllByRecursion IsChange requests.now → out.new ≡ out.old }
 {
     let mut answers = Vec::with_capacity(alloc, requests.len())?;
     for request in requests {

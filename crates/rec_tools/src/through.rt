@@ -2,20 +2,21 @@
 ghost use Rattle.std.specs.Prelude.{◌≡◌, ◌<◌, ◌^◌, List, Some, IfOk, IfSome, IsSomeAnd};
 ghost use Rattle.rec_journal.specs.History.{IsRegular};
 ghost use Rattle.rec_tools.specs.Home.{Call, HasFailed, left_by_all, WentOn};
-ghost use Rattle.rec_tools.specs.Printouts.{Printed, WentOut};
-ghost use Rattle.rec_tools.specs.Requests.{asked_of};
-ghost use Rattle.rec_tools.specs.Attempts.{Answer, Attempts, AttemptsAll};
+ghost use Rattle.rec_tools.specs.Printouts.{Printed, IsSilence};
+ghost use Rattle.rec_tools.specs.Requests.{changing, change_of};
+ghost use Rattle.rec_tools.specs.Attempts.{Answer, AttemptsAll};
 ghost use Rattle.rec_tools.specs.Machine.{State, Stands};
 ghost use Rattle.rec_tools.specs.Guarantee.{RunsAsMachine};
 ghost use Rattle.rec_tools.specs.Through.{move_through, moves_through, moved_by, comes_before, leads_on, EndsThrough, IsThrough};
 ghost use Rattle.rec_tools.specs.proving.Moving.{GoesThrough};
+ghost use Rattle.rec_tools.specs.proving.Silently.{DoesSilently};
 
 use crate::home::Home;
-use crate::request::{Reply, Request};
+use crate::request::{Change, Reply};
 use crate::response::without_texts;
-use crate::runner::run;
+use crate::runner::make_change;
 use rec_journal::Direction;
-use rec_text::{Refusal, Sink};
+use rec_text::Refusal;
 use std::alloc::Global;
 
 /// How moves through the history ended.
@@ -29,30 +30,27 @@ pub struct Through {
     pub answer: Result<Reply, Refusal>,
 }
 
-/// The request for a move by the nearest edit that way, where the edit of this number lies that way too.
-pub(crate) fn move_through(direction: Direction, number: usize) -> Request
+/// A move by the nearest edit that way, where the edit of this number lies that way too.
+pub fn move_through(direction: Direction, number: usize) -> Change
     ensures { result ≡ move_through direction number }
 {
     match direction {
-        Direction::Forward => Request::Redo(Some(number)),
-        Direction::Backward => Request::Undo(Some(number)),
+        Direction::Forward => Change::Redo(Some(number)),
+        Direction::Backward => Change::Undo(Some(number)),
     }
 }
 
-/// A move by the nearest edit that way, where the edit of this number lies that way too.
-fn move_once<H: Home, S: Sink>(
+/// Moves by the nearest edit that way, where the edit of this number lies that way too.
+fn move_once<H: Home>(
     alloc: Global,
     home: &mut H,
-    out: &mut S,
     direction: Direction,
     number: usize,
 ) -> Result<Reply, Refusal>
-    ensures attempts { (calls : List Call) × (p : Printed) × WentOut S.contents S.failure_count out.old out.new p
-        × Attempts H.goes home.old home.new (asked_of (move_through direction number)) result calls p }
-    ensures silent { out.new ≡ out.old }
+    ensures { DoesSilently H.goes home.old home.new (changing (change_of (move_through direction number))) result }
 {
-    let request = move_through(direction, number);
-    without_texts(run(alloc, home, out, &request))
+    let change = move_through(direction, number);
+    without_texts(make_change(alloc, home, &change))
 }
 
 /// The number of the edit that was taken back or made again, if one was.
@@ -96,21 +94,13 @@ pub(crate) fn leads_on(
 }
 
 /// The moves of `run_through`.
-fn go_through<H: Home, S: Sink>(
-    alloc: Global,
-    home: &mut H,
-    out: &mut S,
-    direction: Direction,
-    number: usize,
-) -> Through
-    ensures through { GoesThrough H.goes S.contents S.failure_count direction number home.old home.new
-        out.old out.new result }
-    ensures silent { out.new ≡ out.old }
+fn go_through<H: Home>(alloc: Global, home: &mut H, direction: Direction, number: usize) -> Through
+    ensures { GoesThrough H.goes direction number home.old home.new result }
 {
     let mut first = None;
     let mut last = None;
     loop {
-        let answer = move_once(alloc, home, out, direction, number);
+        let answer = move_once(alloc, home, direction, number);
         let moved = moved_by(&answer);
         let ends = !leads_on(direction, number, last, moved);
         first = first.or(moved);
@@ -125,25 +115,25 @@ fn go_through<H: Home, S: Sink>(
     }
 }
 
-/// Takes back, or makes again, the nearest edits that way as far as the edit of a number, each by a request of its own, which
-/// is refused where that edit doesn't lie that way. It ends with the move by that edit, or where a request is refused. Where
+/// Takes back, or makes again, the nearest edits that way as far as the edit of a number, each by a change of its own, which
+/// is refused where that edit doesn't lie that way. It ends with the move by that edit, or where a change is refused. Where
 /// another program has changed the history meanwhile, so that a move leads past the edit or not towards it, it ends there.
-pub fn run_through<H: Home, S: Sink>(
+pub fn run_through<H: Home>(
     alloc: Global,
     home: &mut H,
-    out: &mut S,
     direction: Direction,
     number: usize,
 ) -> Through
-    // One answer for each request, whatever fails and whoever writes between two requests, by calls of its own.
+    // One answer for each change, whatever fails and whoever writes between two of them, by calls of its own; nothing is
+    // printed.
     ensures attempts { (answers : List Answer) × EndsThrough direction number answers result
-        × (calls : List Call) × (p : Printed) × WentOut S.contents S.failure_count out.old out.new p
+        × (calls : List Call) × (p : Printed) × IsSilence p
         × AttemptsAll H.goes home.old home.new (moves_through direction number answers) answers calls p }
 
     // From contents that stand for a state, while the home tells them, a run of the machine where none of its calls fails.
     ensures guarantee { IfSome (H.contents home.old) (λ c. (s : State) → Stands c s →
         (answers : List Answer) × EndsThrough direction number answers result
-        × (calls : List Call) × (p : Printed) × WentOut S.contents S.failure_count out.old out.new p
+        × (calls : List Call) × (p : Printed) × IsSilence p
         × WentOn H.goes H.contents c home.old calls home.new
         × (¬ HasFailed calls → (t : State)
         × RunsAsMachine c s (moves_through direction number answers) answers calls p t)) }
@@ -151,7 +141,7 @@ pub fn run_through<H: Home, S: Sink>(
     // And whatever calls fail, where the journal is regular, as it then stays.
     ensures failing_stores { IfSome (H.contents home.old) (λ c. (s : State) → Stands c s → IsRegular c.journal →
         (answers : List Answer) × EndsThrough direction number answers result
-        × (calls : List Call) × (p : Printed) × (t : State) × WentOut S.contents S.failure_count out.old out.new p
+        × (calls : List Call) × (p : Printed) × (t : State) × IsSilence p
         × WentOn H.goes H.contents c home.old calls home.new
         × RunsAsMachine c s (moves_through direction number answers) answers calls p t
         × IsRegular (left_by_all c calls).journal) }
@@ -160,8 +150,6 @@ pub fn run_through<H: Home, S: Sink>(
     // lies that way.
     ensures reached { IfOk result.answer (λ reply. IfSome (H.contents home.old) (λ c. (s t : State) → Stands c s
         → IsThrough direction number s t → IsSomeAnd (H.contents home.new) (λ d. Stands d t))) }
-
-    ensures silent { out.new ≡ out.old }
 {
-    go_through(alloc, home, out, direction, number)
+    go_through(alloc, home, direction, number)
 }

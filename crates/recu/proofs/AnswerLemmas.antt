@@ -1,6 +1,6 @@
 -- What answers rest on.
 use Rattle.std.proofs.Common.{◌≡◌, ◌⊎◌, ℕ, Bool, Option, Some, None, Result, Ok, Err, List, [], append-nil, ap, sym, subst, refl}
-use Rattle.std.specs.Prelude.{IfSome, IfOk, IfErr, IsErrOf, MatchOption}
+use Rattle.std.specs.Prelude.{IfSome, IfOk, IfErr, IsErrOf}
 use Rattle.std.specs.Io.Buffered.{writer_buffer, writer_inner}
 use Rattle.std.specs.Io.KnownBytes.{append_known}
 use Rattle.rec_text.specs.declared.fault.Fault.{Fault}
@@ -12,12 +12,6 @@ use Rattle.rec_tools.specs.Attempts.{Answer}
 use Rattle.rec_files.specs.declared.output.StandardOutput.{StandardOutput}
 use Rattle.rec_files.specs.OnDisk.{Places, SecureRequest, LastingRequest, TouchesOwn, RecoversRequest, IsRequestAt}
 use Rattle.recu.specs.Answers.{out_of, new_out, IsReplied}
-
-pub match-some : {A : Type 0} (o : Option A) (x : A) (N : Type 0) (P : A → Type 0) → o ≡ Some x → P x → MatchOption o N P
-match-some o x N P is holds = subst (λ (o : Option _). MatchOption o N P) (sym is) holds
-
-pub match-none : {A : Type 0} (o : Option A) (N : Type 0) (P : A → Type 0) → o ≡ None → N → MatchOption o N P
-match-none o N P is holds = subst (λ (o : Option _). MatchOption o N P) (sym is) holds
 
 append_known-nil : (known : Option (List ℕ)) → append_known known [] ≡ known
 append_known-nil None = refl

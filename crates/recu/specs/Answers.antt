@@ -1,4 +1,4 @@
--- The answer to a command line: of which request it is, on which home, what becomes of what is printed,
+-- The answer to a command line: of which job it is, on which home, what becomes of what is printed,
 -- and which disk is left.
 use Rattle.std.specs.Prelude.{◌≡◌, ◌≢◌, ◌⊎◌, ◌↔◌, ℕ, Bool, true, false, List, [], Option, Some, None, Result, Ok, Err}
 use Rattle.std.specs.Prelude.{IfSome, IsSomeAnd, MatchOption, MatchResult, codes, option_map, unwrap_or, string_bytes}
@@ -15,14 +15,16 @@ use Rattle.rec_disk.specs.Disk.{Story, Told}
 use Rattle.rec_disk.specs.Lasting.{shown}
 use Rattle.rec_disk.specs.Paths.{journal_of}
 use Rattle.rec_journal.specs.declared.patch.Direction.{Direction}
-use Rattle.rec_journal.specs.declared.patch.Direction.TheVariants.{Forward, Backward}
 use Rattle.rec_diff.specs.declared.style.DiffStyle.{DiffStyle}
-use Rattle.rec_tools.specs.declared.request.Request.{Request, Undo, Redo, Preview'}
+use Rattle.rec_tools.specs.declared.request.Change.{Change}
+use Rattle.rec_tools.specs.declared.request.Change.TheVariants.{Batch}
+use Rattle.rec_tools.specs.declared.request.Request.{Request}
+use Rattle.rec_tools.specs.declared.request.Request.TheVariants.{Look as Looks, Change as Changes, Preview as Previews}
 use Rattle.rec_tools.specs.declared.request.Reply.{Reply}
 use Rattle.rec_tools.specs.declared.through.Through.{Through}
 use Rattle.rec_tools.specs.Home.{Call}
-use Rattle.rec_tools.specs.Printouts.{Printed, WentOut}
-use Rattle.rec_tools.specs.Requests.{asked_of, WritesNothing}
+use Rattle.rec_tools.specs.Printouts.{Printed, IsSilence}
+use Rattle.rec_tools.specs.Requests.{changing, change_of, asked_of, IsChange}
 use Rattle.rec_tools.specs.Attempts.{Answer, Attempts, AttemptsAll}
 use Rattle.rec_tools.specs.Through.{move_through, moves_through, EndsThrough, PreviewsThrough}
 use Rattle.rec_files.specs.declared.access.Access.TheVariants.{Look}
@@ -32,25 +34,39 @@ use Rattle.rec_files.specs.OnDisk.{Places, places_by, IsRequestAt, AreRequestsAt
 use Rattle.rec_files.specs.Paths.{AreDefaultPaths}
 use Rattle.rec_files.specs.Succeeding.{IsShut}
 use Rattle.rec_command.specs.declared.args.Order.{Order}
-use Rattle.rec_command.specs.declared.args.Order.TheVariants.{Whole, BatchAt}
+use Rattle.rec_command.specs.declared.args.Order.TheVariants.{Look as LookOrder, Change as ChangeOrder}
+use Rattle.rec_command.specs.declared.args.Order.TheVariants.{Preview as PreviewOrder}
+use Rattle.rec_command.specs.declared.args.ChangeOrder.TheVariants.{Whole, BatchAt, Through as ThroughOrder}
 use Rattle.rec_command.specs.declared.args.CommandLine.{CommandLine}
 use Rattle.rec_command.specs.declared.args.JournalPath.{JournalPath}
 use Rattle.rec_command.specs.declared.args.JournalPath.TheVariants.{Unused, Default, Given}
 use Rattle.rec_command.specs.declared.args.refusal.Refusal.{Refusal}
 use Rattle.rec_command.specs.Status.{line_of, status_of}
 use Rattle.rec_command.specs.Refusals.{AsksForHelp, IsParsed, refusal_fault}
-use Rattle.rec_command.specs.Words.{IsBatchOf}
+use Rattle.recu.specs.declared.job.Job.{Job}
+use Rattle.recu.specs.declared.job.Job.TheVariants.{Once, Through as MovesThrough, DryThrough}
 
--- ---- the request and the home
+-- ---- the job and the home
 
--- The request of an order: that which it gives whole, or a batch with the text at its path, where the disk tells what
--- stands there, or of standard input for `-`; or that text can't be read, or there is no memory for it.
-abbrev pub IsRequestOf : (List ℕ → List ℕ) → Option Story → Order → Result Request Fault → Type 0
-IsRequestOf leads story (Whole own) found = found ≡ Ok own
-IsRequestOf leads story (BatchAt path force preview) (Ok request) = (text : List ℕ)
-    × (string_bytes path ≢ codes "-" → Told story (λ s. shown s.bytes (s.at (leads (string_bytes path))) ≡ Some text))
-    × IsBatchOf text force preview request
-IsRequestOf leads story (BatchAt path force preview) (Err fault) = (fault ≡ OutOfMemory) ⊎ (fault ≡ StoreFailed)
+-- a batch with the text at a path, where the disk tells what stands there, or of standard input for `-`
+abbrev pub IsBatchAt : (List ℕ → List ℕ) → Option Story → List ℕ → Bool → Change → Type 0
+IsBatchAt leads story path force change = (text : List ℕ)
+    × (path ≢ codes "-" → Told story (λ s. shown s.bytes (s.at (leads path)) ≡ Some text))
+    × (change ≡ Batch text force)
+
+-- what an order has done; or the text of its batch can't be read, or there is no memory for it
+abbrev pub IsJobOf : (List ℕ → List ℕ) → Option Story → Order → Result Job Fault → Type 0
+IsJobOf leads story (LookOrder look) found = found ≡ Ok (Once (Looks look))
+IsJobOf leads story (ChangeOrder (Whole change)) found = found ≡ Ok (Once (Changes change))
+IsJobOf leads story (PreviewOrder (Whole change) style) found = found ≡ Ok (Once (Previews change style))
+IsJobOf leads story (ChangeOrder (ThroughOrder direction number)) found = found ≡ Ok (MovesThrough direction number)
+IsJobOf leads story (PreviewOrder (ThroughOrder direction number) style) found =
+    found ≡ Ok (DryThrough direction number style)
+IsJobOf leads story (ChangeOrder (BatchAt path force)) (Ok job) =
+    (batch : Change) × IsBatchAt leads story (string_bytes path) force batch × (job ≡ Once (Changes batch))
+IsJobOf leads story (PreviewOrder (BatchAt path force) style) (Ok job) =
+    (batch : Change) × IsBatchAt leads story (string_bytes path) force batch × (job ≡ Once (Previews batch style))
+IsJobOf leads story _ (Err fault) = (fault ≡ OutOfMemory) ⊎ (fault ≡ StoreFailed)
 
 -- The paths of the file and the journal of a home, by those that are given: these; but where the default journal of a
 -- file is meant, that of the file to which its path leads, and its journal, where the disk tells what stands there; or
@@ -68,20 +84,26 @@ ArePathsOf place leads link story file journal found = found ≡ Ok (file, None)
 
 -- what a line asks for, with the paths of the file and the journal of the home; or there is none, or no such paths
 abbrev pub IsFoundFor : (List ℕ → List ℕ) → (List ℕ → List ℕ) → (List ℕ → Option (List ℕ)) → Option Story
-    → CommandLine → Result (Request × Option (List ℕ) × Option (List ℕ)) Fault → Type 0
-IsFoundFor place leads link story line (Ok found) = IsRequestOf leads story line.order (Ok found.0)
+    → CommandLine → Result (Job × Option (List ℕ) × Option (List ℕ)) Fault → Type 0
+IsFoundFor place leads link story line (Ok found) = IsJobOf leads story line.order (Ok found.0)
     × ArePathsOf place leads link story (option_map string_bytes line.file) line.journal (Ok (found.1, found.2))
-IsFoundFor place leads link story line (Err fault) = IsRequestOf leads story line.order (Err fault)
-    ⊎ ((request : Request) × IsRequestOf leads story line.order (Ok request)
+IsFoundFor place leads link story line (Err fault) = IsJobOf leads story line.order (Err fault)
+    ⊎ ((job : Job) × IsJobOf leads story line.order (Ok job)
     × ArePathsOf place leads link story (option_map string_bytes line.file) line.journal (Err fault))
 
--- a home of the two files on a disk, which may write them only for a request that writes
-pub record IsHomeFor {R D F S : Type 0} (disk : D) (file journal : Option (List ℕ)) (request : Request)
+-- something is to be changed
+abbrev pub DoesChange : Job → Type 0
+DoesChange (Once request) = IsChange request
+DoesChange (MovesThrough direction number) = Unit {0}
+DoesChange (DryThrough direction number style) = ⊥
+
+-- a home of the two files on a disk, which may write them only where something is to be changed
+pub record IsHomeFor {R D F S : Type 0} (disk : D) (file journal : Option (List ℕ)) (job : Job)
     (home : DiskHome R D F S) : Type 0 where
   pub disk_is : home.disk ≡ disk
   pub file_is : option_map string_bytes home.file ≡ file
   pub journal_is : string_bytes home.journal ≡ unwrap_or journal []
-  pub access_is : (home.access ≡ Look) ↔ WritesNothing (asked_of request)
+  pub access_is : (home.access ≡ Look) ↔ (DoesChange job → ⊥)
 
 -- the same home once its files are closed
 pub record IsClosed {R D F S : Type 0} (home closed : DiskHome R D F S) : Type 0 where
@@ -130,18 +152,7 @@ abbrev pub IsLetOut : Answer → ℕ → Out → Answer → Type 0
 IsLetOut told failed out answer = ((answer ≡ told) × (out.held ≡ []) × (out.failed ≡ failed))
     ⊎ ((answer ≡ unprinted told) × HasRisen failed out.failed)
 
--- ---- one request, or moves as far as an edit
-
--- the way and the number of the edit as far as which a request moves through the history, if it does
-abbrev pub through_of : Request → Option (Direction × ℕ)
-through_of (Undo (Some number)) = Some (Backward, number)
-through_of (Redo (Some number)) = Some (Forward, number)
-through_of request = None
-
--- the same of a dry run, and the style in which it prints
-abbrev pub dry_through_of : Request → Option ((Direction × ℕ) × DiffStyle)
-dry_through_of (Preview' shape request style) = option_map (λ way. (way, style)) (through_of request)
-dry_through_of request = None
+-- ---- a job
 
 -- An answer to moves as far as the edit of a number: that of the last one; but where it isn't refused and not by that
 -- edit, another program came in between, and the answer is 23.
@@ -155,82 +166,80 @@ module _ {R D F S : Type 0} (place leads folder : List ℕ → List ℕ) (syncs 
   abbrev pub places_of : DiskHome R D F S → Option Places
   places_of home = places_by leads (option_map string_bytes home.file) (string_bytes home.journal)
 
-  -- By calls by which the one home becomes the other, with what standard output takes, a request is answered so.
-  module _ (old new : DiskHome R D F S) (before after : Out) where
-    -- it is the answer of the request itself, once what it printed is let out
-    pub record AnswersOnce (request : Request) (answer : Answer) : Type 0 where
-      pub told : Answer
-      pub calls : List Call
-      pub printed : Printed
-      pub taken : Appends before.taken after.taken printed.text
-      pub failed : printed.before ≡ before.failed
-      pub attempts : Attempts goes old new (asked_of request) told calls printed
-      pub on_disk : IfSome (places_of old)
-          (λ at. IsRequestAt place folder syncs at (asked_of request) told (story old.disk) (story new.disk))
-      pub let_out : IsLetOut told printed.after after answer
-
-    -- it is that of moves, each a request of its own
+  -- By calls by which the one home becomes the other, it is answered so.
+  module _ (old new : DiskHome R D F S) where
+    -- it is the answer of moves, each a change of its own
     pub record AnswersThrough (direction : Direction) (number : ℕ) (answer : Answer) : Type 0 where
       pub told : Through
       pub answers : List Answer
       pub ends : EndsThrough direction number answers told
       pub calls : List Call
       pub printed : Printed
-      pub went_out : WentOut (λ out. out.taken) (λ out. out.failed) before after printed
+      pub silent : IsSilence printed
       pub attempts : AttemptsAll goes old new (moves_through direction number answers) answers calls printed
       pub on_disk : IfSome (places_of old) (λ at. AreRequestsAt place folder syncs at
-          (asked_of (move_through direction number)) answers (story old.disk) (story new.disk))
+          (changing (change_of (move_through direction number))) answers (story old.disk) (story new.disk))
       pub moved : IsMovedTo number told answer
 
-    -- it is that of a dry run of such moves, once what it printed is let out; nothing is changed on the disk
-    pub record AnswersDry (direction : Direction) (number : ℕ) (style : DiffStyle) (answer : Answer) : Type 0 where
-      pub told : Through
-      pub answers : List Answer
-      pub ends : EndsThrough direction number answers told
-      pub printed : Printed
-      pub taken : Appends before.taken after.taken printed.text
-      pub failed : printed.before ≡ before.failed
-      pub previews : PreviewsThrough goes old new style direction number answers printed
-      pub still : IfSome (places_of old) (λ at. story new.disk ≡ story old.disk)
-      pub reached : Answer
-      pub moved : IsMovedTo number told reached
-      pub let_out : IsLetOut reached printed.after after answer
+    -- the same with what standard output takes
+    module _ (before after : Out) where
+      -- it is the answer of the request itself, once what it printed is let out
+      pub record AnswersOnce (request : Request) (answer : Answer) : Type 0 where
+        pub told : Answer
+        pub calls : List Call
+        pub printed : Printed
+        pub taken : Appends before.taken after.taken printed.text
+        pub failed : printed.before ≡ before.failed
+        pub attempts : Attempts goes old new (asked_of request) told calls printed
+        pub on_disk : IfSome (places_of old)
+            (λ at. IsRequestAt place folder syncs at (asked_of request) told (story old.disk) (story new.disk))
+        pub let_out : IsLetOut told printed.after after answer
 
-    -- it is that of a request that doesn't move as far as an edit, or of a dry run of one that does
-    abbrev pub AnswersAlone : Request → Answer → Type 0
-    AnswersAlone request answer = MatchOption (dry_through_of request) (AnswersOnce request answer)
-        (λ way. AnswersDry way.0.0 way.0.1 way.1 answer)
+      -- it is that of a dry run of moves, once what it printed is let out; nothing is changed on the disk
+      pub record AnswersDry (direction : Direction) (number : ℕ) (style : DiffStyle) (answer : Answer) : Type 0 where
+        pub told : Through
+        pub answers : List Answer
+        pub ends : EndsThrough direction number answers told
+        pub printed : Printed
+        pub taken : Appends before.taken after.taken printed.text
+        pub failed : printed.before ≡ before.failed
+        pub previews : PreviewsThrough goes old new style direction number answers printed
+        pub still : IfSome (places_of old) (λ at. story new.disk ≡ story old.disk)
+        pub reached : Answer
+        pub moved : IsMovedTo number told reached
+        pub let_out : IsLetOut reached printed.after after answer
 
-    abbrev pub Answers : Request → Answer → Type 0
-    Answers request answer = MatchOption (through_of request) (AnswersAlone request answer)
-        (λ way. AnswersThrough way.0 way.1 answer)
+      abbrev pub Answers : Job → Answer → Type 0
+      Answers (Once request) answer = AnswersOnce request answer
+      Answers (MovesThrough direction number) answer = (after ≡ before) × AnswersThrough direction number answer
+      Answers (DryThrough direction number style) answer = AnswersDry direction number style answer
 
-  -- On a home, which is closed then, a request is answered so, and is printed by a writer that took these bytes before,
-  -- by standard output, which is so then; or there was no memory for it, and nothing was done.
-  abbrev pub AnswersOn : DiskHome R D F S → DiskHome R D F S → Option (List ℕ) → Option Out → Request → Answer → Type 0
-  AnswersOn old closed taken out request answer = BeforeClosing (λ home. MatchOption out
+  -- On a home, which is closed then, a job is answered so, and is printed by a writer that took these bytes before, by
+  -- standard output, which is so then; or there was no memory for it, and nothing was done.
+  abbrev pub AnswersOn : DiskHome R D F S → DiskHome R D F S → Option (List ℕ) → Option Out → Job → Answer → Type 0
+  AnswersOn old closed taken out job answer = BeforeClosing (λ home. MatchOption out
       ((answer ≡ Err OutOfMemory) × (home ≡ old))
-      (λ after. Answers old home (new_out taken) after request answer)) closed
+      (λ after. Answers old home (new_out taken) after job answer)) closed
 
   -- ---- the command line
 
-  -- A request is answered so on a home of the files at two paths, on a disk that tells what the first does and works
+  -- A job is answered so on a home of the files at two paths, on a disk that tells what the first does and works
   -- where that does, and the home's disk is the last one.
   pub record IsCarriedOut (first last : D) (taken : Option (List ℕ)) (out : Option Out)
-      (file journal : Option (List ℕ)) (request : Request) (answer : Answer) : Type 0 where
+      (file journal : Option (List ℕ)) (job : Job) (answer : Answer) : Type 0 where
     pub disk : D
     pub same : story disk ≡ story first
     pub works_still : works first → works disk
     pub home : DiskHome R D F S
-    pub home_is : IsHomeFor disk file journal request home
+    pub home_is : IsHomeFor disk file journal job home
     pub closed : DiskHome R D F S
-    pub answered : AnswersOn home closed taken out request answer
+    pub answered : AnswersOn home closed taken out job answer
     pub last_is : last ≡ closed.disk
 
   -- A line is answered so, from the first disk to the last, by a writer that took these bytes before, with standard
-  -- output so then: its request is, on its files; or what it asks for isn't found, and nothing is changed or printed.
+  -- output so then: its job is, on its files; or what it asks for isn't found, and nothing is changed or printed.
   abbrev pub IsDone : (List ℕ → Option (List ℕ)) → D → D → Option (List ℕ) → Option Out → CommandLine → Answer → Type 0
-  IsDone link first last taken out line answer = (found : Result (Request × Option (List ℕ) × Option (List ℕ)) Fault)
+  IsDone link first last taken out line answer = (found : Result (Job × Option (List ℕ) × Option (List ℕ)) Fault)
       × IsFoundFor place leads link (story first) line found
       × MatchResult found (λ task. IsCarriedOut first last taken out task.1 task.2 task.0 answer)
       (λ fault. (answer ≡ Err fault) × (story last ≡ story first) × (out ≡ None))

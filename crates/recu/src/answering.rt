@@ -1,102 +1,73 @@
-//! The answer to a request on a file and its journal, on any disk.
-ghost use Rattle.std.specs.Prelude.{◌≡◌, option_map};
+//! The answer to what is done to a file and its journal, on any disk.
+ghost use Rattle.std.specs.Prelude.{option_map};
 ghost use Rattle.std.specs.Io.Buffered.{writer_contents};
 ghost use Rattle.std.specs.Io.KnownBytes.{Keeps};
 ghost use Rattle.rec_files.specs.Succeeding.{IsShut};
-ghost use Rattle.recu.specs.Answers.{through_of, dry_through_of, IsMovedTo, out_of, IsLetOut, AnswersOnce, AnswersDry};
-ghost use Rattle.recu.specs.Answers.{AnswersAlone, AnswersThrough, Answers, BeforeClosing};
-ghost use Rattle.recu.specs.Answers.{AnswersOn};
+ghost use Rattle.recu.specs.Answers.{IsMovedTo, out_of, IsLetOut, AnswersOnce, AnswersDry, AnswersThrough, Answers};
+ghost use Rattle.recu.specs.Answers.{IsClosed, BeforeClosing, AnswersOn};
 
+use crate::job::Job;
 use crate::saying::say_how_far;
 use rec_disk::Disk;
-use rec_files::{DiskHome, StandardOutput, access_of, preview_through, room_for, run_through};
+use rec_files::{DiskHome, StandardOutput, preview_through, room_for, run_through};
 use rec_tools::{DiffStyle, Direction, Fault, Home, Refusal, Request, Response, Through};
 use std::io::Write;
 
-/// The answer to a request, which is printed by a writer, once the files are closed, and standard output as it is then, where
-/// there was memory for it.
+/// The answer to a job, which is printed by a writer, once the files are closed, and standard output as it is then, where there
+/// was memory for it.
 pub fn answer_by<D: Disk + Drop, W: Write + Drop>(
     rt: &HostRuntime,
     home: &mut DiskHome<'_, HostRuntime, D>,
-    request: &Request,
+    job: &Job,
     writer: W,
 ) -> (Result<Response, Refusal>, Option<StandardOutput<W>>)
     ensures answers { AnswersOn D.place D.leads D.folder D.syncs D.story D.works
         ⟦<DiskHome<'static, HostRuntime, D> as Home>⟧.goes home.old home.new (W.contents writer)
-        (option_map (out_of W.contents) result.1) request.now result.0 }
+        (option_map (out_of W.contents) result.1) job.now result.0 }
     ensures shut { IsShut home.new.both }
 {
-    let room = room_for(access_of(request));
+    let room = room_for(job.access());
     let Ok(mut out) = StandardOutput::new(rt.alloc(), room, writer) else {
         home.close();
         return (Err(Refusal::from(Fault::OutOfMemory)), None);
     };
-    let answer = answer_to(rt, home, &mut out, request);
+    let answer = answer_to(rt, home, &mut out, job);
     let _ = out.explain(rt);
     (answer, Some(out))
 }
 
-/// The answer to a request, once the files are closed.
+/// The answer to a job, once the files are closed.
 fn answer_to<D: Disk + Drop, W: Write + Drop>(
     rt: &HostRuntime,
     home: &mut DiskHome<'_, HostRuntime, D>,
     out: &mut StandardOutput<W>,
-    request: &Request,
+    job: &Job,
 ) -> Result<Response, Refusal>
     ensures answers { BeforeClosing (λ done. Answers D.place D.leads D.folder D.syncs D.story D.works
         ⟦<DiskHome<'static, HostRuntime, D> as Home>⟧.goes home.old done
-        (out_of W.contents out.old) (out_of W.contents out.new) request.now result) home.new }
+        (out_of W.contents out.old) (out_of W.contents out.new) job.now result) home.new }
 {
-    match through_of(request) {
-        Some((direction, number)) => move_through(rt, home, out, direction, number),
-        None => {
-            let answer = run_alone(rt, home, out, request);
-            home.close();
-            let _ = home.explain(rt);
+    match job {
+        Job::Once(request) => {
+            let answer = run_once(rt, home, out, request);
+            close(rt, home);
+            answer
+        }
+        Job::Through(direction, number) => move_through(rt, home, *direction, *number),
+        Job::DryThrough(direction, number, style) => {
+            let answer = run_dry(rt, home, out, *direction, *number, style);
+            close(rt, home);
             answer
         }
     }
 }
 
-/// The way and the number of the edit as far as which a request moves through the history, if it does.
-fn through_of(request: &Request) -> Option<(Direction, usize)>
-    ensures { result ≡ through_of request.now }
+/// Closes the files, and says which of them failed last.
+fn close<D: Disk + Drop>(rt: &HostRuntime, home: &mut DiskHome<'_, HostRuntime, D>)
+    ensures { IsClosed home.old home.new }
 {
-    match request {
-        Request::Undo(Some(number)) => Some((Direction::Backward, *number)),
-        Request::Redo(Some(number)) => Some((Direction::Forward, *number)),
-        _ => None,
-    }
-}
-
-/// The same of a dry run, and the style in which it prints.
-fn dry_through_of(request: &Request) -> Option<((Direction, usize), &DiffStyle)>
-    ensures { option_map (λ (way, style). (way, style.now)) result ≡ dry_through_of request.now }
-{
-    match request {
-        Request::Preview(previewed, style) => {
-            let way = through_of(previewed)?;
-            Some((way, style))
-        }
-        _ => None,
-    }
-}
-
-/// The answer to a request that doesn't move as far as an edit, or to a dry run of one that does.
-fn run_alone<D: Disk + Drop, W: Write + Drop>(
-    rt: &HostRuntime,
-    home: &mut DiskHome<'_, HostRuntime, D>,
-    out: &mut StandardOutput<W>,
-    request: &Request,
-) -> Result<Response, Refusal>
-    ensures answers { AnswersAlone D.place D.leads D.folder D.syncs D.story D.works
-        ⟦<DiskHome<'static, HostRuntime, D> as Home>⟧.goes home.old home.new (out_of W.contents out.old)
-        (out_of W.contents out.new) request.now result }
-{
-    match dry_through_of(request) {
-        Some(((direction, number), style)) => { run_dry(rt, home, out, direction, number, style) }
-        None => run_once(rt, home, out, request),
-    }
+    home.close();
+    let _ = home.explain(rt);
 }
 
 /// The answer to a dry run of moves from the nearest edit to that of a number, once what it prints is let out.
@@ -147,18 +118,16 @@ fn let_out<W: Write + Drop>(
 }
 
 /// The answer to moves from the nearest edit to that of a number, once the files are closed and it is said how far they went.
-fn move_through<D: Disk + Drop, W: Write + Drop>(
+fn move_through<D: Disk + Drop>(
     rt: &HostRuntime,
     home: &mut DiskHome<'_, HostRuntime, D>,
-    out: &mut StandardOutput<W>,
     direction: Direction,
     number: usize,
 ) -> Result<Response, Refusal>
     ensures answers { BeforeClosing (λ done. AnswersThrough D.place D.leads D.folder D.syncs D.story D.works
-        ⟦<DiskHome<'static, HostRuntime, D> as Home>⟧.goes home.old done
-        (out_of W.contents out.old) (out_of W.contents out.new) direction number result) home.new }
+        ⟦<DiskHome<'static, HostRuntime, D> as Home>⟧.goes home.old done direction number result) home.new }
 {
-    let through = run_through(rt.alloc(), home, out, direction, number);
+    let through = run_through(rt.alloc(), home, direction, number);
     home.close();
     say_how_far(rt, home, direction, number, &through);
     let _ = home.explain(rt);

@@ -5,16 +5,18 @@ ghost use Rattle.rec_text.specs.declared.fault.Fault.{Fault as FaultOf};
 ghost use Rattle.rec_tools.specs.declared.request.Reply.{Reply as ReplyOf};
 ghost use Rattle.rec_command.specs.Status.{Says};
 ghost use Rattle.recu.specs.Answers.{out_of, HasLostReader, IsAnswerTo, IsAnswerToRefused, IsDone, IsFinished};
-ghost use Rattle.recu.specs.Answers.{ArePathsOf, IsCarriedOut, IsFoundFor, IsHomeFor, IsRequestOf};
+ghost use Rattle.recu.specs.Answers.{ArePathsOf, IsBatchAt, IsCarriedOut, IsFoundFor, IsHomeFor, IsJobOf};
+ghost use Rattle.rec_text.specs.Faults.{IsOkUnlessEither};
 
 use crate::answering::answer_by;
+use crate::job::Job;
 use crate::saying::{say_empty, say_more, say_waiting};
-use rec_command::{CommandLine, JournalPath, Order, batch_request, finish, parse};
+use rec_command::{ChangeOrder, CommandLine, JournalPath, Order, finish, parse};
 use rec_disk::Disk;
 use rec_files::{
-    DefaultPaths, DiskHome, StandardOutput, access_of, batch_text, default_paths, explain_output,
+    DefaultPaths, DiskHome, StandardOutput, batch_text, default_paths, explain_output,
 };
-use rec_tools::{Fault, Home, Refusal, Reply, Request, Response, Sink};
+use rec_tools::{Change, DiffStyle, Fault, Home, Refusal, Reply, Request, Response, Sink};
 use std::io;
 use std::io::Write;
 use std::rt::Runtime;
@@ -33,7 +35,7 @@ struct Paths {
 /// What a line asks for, and of which files.
 #[derive(Drop)]
 struct Task {
-    request: Request,
+    job: Job,
     /// The path of the text of a batch.
     batch: Option<String>,
     paths: Paths,
@@ -174,19 +176,15 @@ fn do_task<D: Disk + Drop, W: Write + Drop>(
     ensures answer { IsCarriedOut D.place D.leads D.folder D.syncs D.story D.works
         ⟦<DiskHome<'static, HostRuntime, D> as Home>⟧.goes disk result.1 (W.contents out)
         (option_map (out_of W.contents) result.2) (option_map string_bytes task.paths.file)
-        (option_map string_bytes task.paths.journal) task.request result.0 }
+        (option_map string_bytes task.paths.journal) task.job result.0 }
 {
-    let Task {
-        request,
-        batch,
-        paths,
-    } = task;
+    let Task { job, batch, paths } = task;
     if paths.file.is_none() {
-        say_waiting(rt, &request);
+        say_waiting(rt, &job);
     }
-    let mut home = home_for(rt, disk, paths, &request);
-    let (answer, printed) = answer_by(rt, &mut home, &request, out);
-    say_more(rt, &home, &request, &batch, &answer);
+    let mut home = home_for(rt, disk, paths, &job);
+    let (answer, printed) = answer_by(rt, &mut home, &job, out);
+    say_more(rt, &home, &job, &batch, &answer);
     (answer, home.into_disk(), printed)
 }
 
@@ -195,7 +193,7 @@ fn task_of<D: Disk>(rt: &HostRuntime, disk: &mut D, line: CommandLine) -> Result
     ensures same { D.story disk.new ≡ D.story disk.old }
     ensures works { D.works disk.old → D.works disk.new }
     ensures found { IfOk result (λ task. IsFoundFor D.place D.leads D.link (D.story disk.old) line
-        (Ok (task.request, option_map string_bytes task.paths.file, option_map string_bytes task.paths.journal))) }
+        (Ok (task.job, option_map string_bytes task.paths.file, option_map string_bytes task.paths.journal))) }
     ensures refused { IfErr result (λ fault. IsFoundFor D.place D.leads D.link (D.story disk.old) line (Err fault)) }
 {
     let CommandLine {
@@ -203,39 +201,90 @@ fn task_of<D: Disk>(rt: &HostRuntime, disk: &mut D, line: CommandLine) -> Result
         file,
         journal,
     } = line;
-    let (request, batch) = request_of(rt, disk, order)?;
+    let (job, batch) = job_of(rt, disk, order)?;
     let paths = paths_of(rt, disk, file, journal)?;
-    Ok(Task {
-        request,
-        batch,
-        paths,
-    })
+    Ok(Task { job, batch, paths })
 }
 
-/// The request of an order, and the path of its text where it is a batch.
-fn request_of<D: Disk>(
+/// What an order has done, and the path of its text where it is a batch.
+fn job_of<D: Disk>(
     rt: &HostRuntime,
     disk: &mut D,
     order: Order,
-) -> Result<(Request, Option<String>), Fault>
+) -> Result<(Job, Option<String>), Fault>
     ensures same { D.story disk.new ≡ D.story disk.old }
     ensures works { D.works disk.old → D.works disk.new }
-    ensures request { IfOk result (λ found. IsRequestOf D.leads (D.story disk.old) order (Ok found.0)) }
-    ensures refused { IfErr result (λ fault. IsRequestOf D.leads (D.story disk.old) order (Err fault)) }
+    ensures job { IfOk result (λ found. IsJobOf D.leads (D.story disk.old) order (Ok found.0)) }
+    ensures refused { IfErr result (λ fault. IsJobOf D.leads (D.story disk.old) order (Err fault)) }
 {
     match order {
-        Order::Whole(request) => Ok((request, None)),
-        Order::BatchAt {
-            path,
-            force,
-            preview,
-        } => {
-            say_empty(rt, path.as_str());
-            let text = batch_text(rt, disk, path.as_str())?;
-            let request = batch_request(rt.alloc(), text, force, preview)?;
-            Ok((request, Some(path)))
+        Order::Look(look) => Ok((Job::Once(Request::Look(look)), None)),
+        Order::Change(order) => change_job(rt, disk, order),
+        Order::Preview(order, style) => preview_job(rt, disk, order, style),
+    }
+}
+
+/// The same of a change.
+fn change_job<D: Disk>(
+    rt: &HostRuntime,
+    disk: &mut D,
+    order: ChangeOrder,
+) -> Result<(Job, Option<String>), Fault>
+    ensures same { D.story disk.new ≡ D.story disk.old }
+    ensures works { D.works disk.old → D.works disk.new }
+    ensures job { IfOk result (λ found. IsJobOf D.leads (D.story disk.old) (Order.Change order) (Ok found.0)) }
+    ensures refused { IfErr result (λ fault. IsJobOf D.leads (D.story disk.old) (Order.Change order) (Err fault)) }
+{
+    match order {
+        ChangeOrder::Whole(change) => Ok((Job::Once(Request::Change(change)), None)),
+        ChangeOrder::BatchAt { path, force } => {
+            let batch = batch_at(rt, disk, path.as_str(), force)?;
+            Ok((Job::Once(Request::Change(batch)), Some(path)))
+        }
+        ChangeOrder::Through(direction, number) => Ok((Job::Through(direction, number), None)),
+    }
+}
+
+/// The same of a dry run of a change.
+fn preview_job<D: Disk>(
+    rt: &HostRuntime,
+    disk: &mut D,
+    order: ChangeOrder,
+    style: DiffStyle,
+) -> Result<(Job, Option<String>), Fault>
+    ensures same { D.story disk.new ≡ D.story disk.old }
+    ensures works { D.works disk.old → D.works disk.new }
+    ensures job { IfOk result (λ found. IsJobOf D.leads (D.story disk.old) (Order.Preview order style) (Ok found.0)) }
+    ensures refused { IfErr result (λ fault.
+        IsJobOf D.leads (D.story disk.old) (Order.Preview order style) (Err fault)) }
+{
+    match order {
+        ChangeOrder::Whole(change) => Ok((Job::Once(Request::Preview(change, style)), None)),
+        ChangeOrder::BatchAt { path, force } => {
+            let batch = batch_at(rt, disk, path.as_str(), force)?;
+            Ok((Job::Once(Request::Preview(batch, style)), Some(path)))
+        }
+        ChangeOrder::Through(direction, number) => {
+            Ok((Job::DryThrough(direction, number, style), None))
         }
     }
+}
+
+/// The batch whose text is that at a path.
+fn batch_at<D: Disk>(
+    rt: &HostRuntime,
+    disk: &mut D,
+    path: &str,
+    force: bool,
+) -> Result<Change, Fault>
+    ensures same { D.story disk.new ≡ D.story disk.old }
+    ensures works { D.works disk.old → D.works disk.new }
+    ensures batch { IfOk result (IsBatchAt D.leads (D.story disk.old) path.now force) }
+    ensures refusals { IsOkUnlessEither result Fault.OutOfMemory Fault.StoreFailed }
+{
+    say_empty(rt, path);
+    let text = batch_text(rt, disk, path)?;
+    Ok(Change::Batch { text, force })
 }
 
 /// The paths of the home of a file and a journal. For the default journal the links at the end of the file's path are followed
@@ -283,20 +332,20 @@ fn paths_of<D: Disk>(
     }
 }
 
-/// The home of a file and its journal for a request.
+/// The home of a file and its journal for a job.
 fn home_for<'r, D: Disk + Drop>(
     rt: &'r HostRuntime,
     disk: D,
     paths: Paths,
-    request: &Request,
+    job: &Job,
 ) -> DiskHome<'r, HostRuntime, D>
     ensures home { IsHomeFor disk (option_map string_bytes paths.file) (option_map string_bytes paths.journal)
-        request.now result }
+        job.now result }
 {
     let Paths {
         name,
         file,
         journal,
     } = paths;
-    DiskHome::new(rt, disk, name, file, journal, access_of(request))
+    DiskHome::new(rt, disk, name, file, journal, job.access())
 }

@@ -3,6 +3,7 @@
 
 mod answering;
 mod commanding;
+mod job;
 mod saying;
 
 use commanding::status;

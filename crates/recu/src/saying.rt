@@ -1,6 +1,7 @@
 //! What is said on standard error beside the line of a refusal.
 ghost use Rattle.rec_files.specs.Succeeding.{IsShut};
 
+use crate::job::Job;
 use rec_disk::{Disk, Escaped};
 use rec_explain::{
     About, explain, explain_done, explain_empty, explain_endings, explain_report, explain_through,
@@ -8,13 +9,18 @@ use rec_explain::{
 };
 use rec_files::DiskHome;
 use rec_select::write_report;
-use rec_tools::{Direction, Fault, Output, Refusal, Reply, Request, Response, Through, Which};
+use rec_tools::{
+    Direction, Fault, Look, Output, Refusal, Reply, Request, Response, Through, Which, move_through,
+};
 use std::io::{IsTerminal, Write};
 use std::rt::Runtime;
 
 /// Says on standard error that standard input is read, where both are a terminal.
-pub fn say_waiting(rt: &HostRuntime, request: &Request) {
-    if rt.stdin().is_terminal() && rt.stderr().is_terminal() {
+pub fn say_waiting(rt: &HostRuntime, job: &Job) {
+    if let Job::Once(request) = job
+        && rt.stdin().is_terminal()
+        && rt.stderr().is_terminal()
+    {
         say(rt, &explain_waiting(rt.alloc(), request));
     }
 }
@@ -53,7 +59,7 @@ pub fn say_how_far<D: Disk + Drop>(
 pub fn say_more<D: Disk + Drop>(
     rt: &HostRuntime,
     home: &DiskHome<'_, HostRuntime, D>,
-    request: &Request,
+    job: &Job,
     batch: &Option<String>,
     answer: &Result<Response, Refusal>,
 )
@@ -63,20 +69,31 @@ pub fn say_more<D: Disk + Drop>(
         return;
     };
     let about = about(home, &names);
-    match answer {
-        Ok(response) => {
-            say_of_report(rt, &about, request, response);
-            let on_terminal = rt.stderr().is_terminal();
-            say(
-                rt,
-                &explain_done(rt.alloc(), &about, request, response, on_terminal),
-            );
+    match (job, answer) {
+        (Job::Once(request), Ok(response)) => say_what_was_done(rt, &about, request, response),
+        (Job::Once(request), Err(refusal)) => say_refusal(rt, &about, request, refusal),
+        (Job::Through(direction, number) | Job::DryThrough(direction, number, _), Err(refusal)) => {
+            let request = Request::Change(move_through(*direction, *number));
+            say_refusal(rt, &about, &request, refusal);
         }
-        Err(refusal) => {
-            print_report(rt, refusal.fault());
-            say(rt, &explain(rt.alloc(), &about, request, refusal));
-        }
+        (Job::Through(_, _) | Job::DryThrough(_, _, _), Ok(_)) => {}
     }
+}
+
+/// Says what is to be said of a report and of what was done.
+fn say_what_was_done(rt: &HostRuntime, about: &About<'_>, request: &Request, response: &Response) {
+    say_of_report(rt, about, request, response);
+    let on_terminal = rt.stderr().is_terminal();
+    say(
+        rt,
+        &explain_done(rt.alloc(), about, request, response, on_terminal),
+    );
+}
+
+/// Says what a refusal is about, after its report.
+fn say_refusal(rt: &HostRuntime, about: &About<'_>, request: &Request, refusal: &Refusal) {
+    print_report(rt, refusal.fault());
+    say(rt, &explain(rt.alloc(), about, request, refusal));
 }
 
 /// What a batch, the file and its journal are called, and the file's path, as they are told.
@@ -124,7 +141,7 @@ fn say_of_report(rt: &HostRuntime, about: &About<'_>, request: &Request, respons
     if is_report && rt.stdout().is_terminal() {
         say(rt, &explain_report(rt.alloc(), text));
     }
-    if is_report || matches!(request, Request::Check) && rt.stderr().is_terminal() {
+    if is_report || matches!(request, Request::Look(Look::Check)) && rt.stderr().is_terminal() {
         say(rt, &explain_endings(rt.alloc(), about.file, text));
     }
 }

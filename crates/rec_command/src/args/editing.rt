@@ -7,12 +7,12 @@ ghost use Rattle.rec_command.specs.declared.tools.Tool.TheVariants.{RecFix, RecI
 ghost use Rattle.rec_command.specs.Refusals.{IsOrRefuses};
 ghost use Rattle.rec_command.specs.Words.{action_given, has_flag, new_record_given, AsksEdit, Orders};
 
-use super::Order;
 use super::found::{given, is_given, text, texts};
 use super::refusal::Refusal;
 use super::selecting::pick;
+use super::{ChangeOrder, Order};
 use clap::ArgMatches;
-use rec_tools::{Action, Ask, EditRequest, NewRecord, Pick, Request};
+use rec_tools::{Action, Ask, Change, EditRequest, Look, NewRecord, Pick};
 use std::alloc::Global;
 
 /// An edit, with force where that is given.
@@ -21,7 +21,7 @@ pub fn edit_order(edit: EditRequest, options: &ArgMatches) -> Order
         → Orders tool (rows_of (found_of options.now)) result }
 {
     let force = is_given(options, "force");
-    Order::Whole(Request::Edit { edit, force })
+    Order::Change(ChangeOrder::Whole(Change::Edit { edit, force }))
 }
 
 /// What recfix is asked for: to check, or to give records their automatic fields.
@@ -45,7 +45,7 @@ fn check_order(options: &ArgMatches) -> Result<Order, Refusal>
     if is_given(options, "dry-run") {
         return Err(Refusal::Rule("recfix: --dry-run needs --auto"));
     }
-    Ok(Order::Whole(Request::Check))
+    Ok(Order::Look(Look::Check))
 }
 
 /// What recins is asked for: to put a record in, or instead of each that is selected.
@@ -132,11 +132,10 @@ pub fn batch_order(alloc: Global, options: &ArgMatches) -> Result<Order, Refusal
     ensures { IsOrRefuses (Orders Batch (rows_of (found_of options.now))) result }
 {
     match given(options, "batch") {
-        Some(path) => Ok(Order::BatchAt {
+        Some(path) => Ok(Order::Change(ChangeOrder::BatchAt {
             path: String::from_str(alloc, path)?,
             force: is_given(options, "force"),
-            preview: None,
-        }),
+        })),
         None => Err(Refusal::Rule("batch: -b is needed")),
     }
 }

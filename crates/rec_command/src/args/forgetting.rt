@@ -5,11 +5,11 @@ ghost use Rattle.rec_command.specs.declared.tools.Tool.TheVariants.{Forget};
 ghost use Rattle.rec_command.specs.Refusals.{IsOrRefuses};
 ghost use Rattle.rec_command.specs.Words.{IsNumber, Orders};
 
-use super::Order;
 use super::found::{given, is_given};
 use super::refusal::Refusal;
+use super::{ChangeOrder, Order};
 use clap::ArgMatches;
-use rec_tools::Request;
+use rec_tools::Change;
 
 /// What forget is asked for: how many of the edits that can be undone it keeps, and whether dropped edits go too.
 pub fn forget_order(options: &ArgMatches) -> Result<Order, Refusal>
@@ -19,10 +19,10 @@ pub fn forget_order(options: &ArgMatches) -> Result<Order, Refusal>
         return Err(Refusal::Rule("forget: N is needed"));
     };
     match number_of(digits) {
-        Some(newest) => Ok(Order::Whole(Request::Forget {
+        Some(newest) => Ok(Order::Change(ChangeOrder::Whole(Change::Forget {
             newest,
             dropped: is_given(options, "dropped"),
-        })),
+        }))),
         None => Err(Refusal::Rule(
             "forget: N must be a number from 0 to 4294967295, in digits alone",
         )),

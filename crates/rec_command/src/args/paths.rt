@@ -10,7 +10,7 @@ use super::refusal::Refusal;
 use super::{JournalPath, Order};
 use clap::ArgMatches;
 use rec_disk::are_apart;
-use rec_tools::Request;
+use rec_tools::Look;
 use std::alloc::{AllocError, Global};
 
 const CLASH: &str = "--journal: FILE and PATH are one path, or one is the other with .new appended";
@@ -55,7 +55,7 @@ fn journal(
     ensures { IsOrRefuses (IsJournal order.now (option_map (λ path. path.now) file.entry)
         (option_map (λ path. path.now) given.entry)) result }
 {
-    if let Order::Whole(Request::Show { .. } | Request::Info { .. } | Request::Check) = order {
+    if let Order::Look(Look::Show { .. } | Look::Info { .. } | Look::Check) = order {
         if let (Some(file), Some(given)) = (file, given) {
             require_apart(alloc, file, given)?;
         }

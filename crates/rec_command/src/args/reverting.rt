@@ -4,12 +4,12 @@ ghost use Rattle.rec_command.specs.declared.tools.Tool.TheVariants.{Revert};
 ghost use Rattle.rec_command.specs.Refusals.{IsOrRefuses};
 ghost use Rattle.rec_command.specs.Words.{Orders};
 
-use super::Order;
 use super::found::{given, is_given};
 use super::numbers::edit_given;
 use super::refusal::Refusal;
+use super::{ChangeOrder, Order};
 use clap::ArgMatches;
-use rec_tools::Request;
+use rec_tools::Change;
 
 const NO_NUMBER: &str =
     "revert: N must be a number from 1 to 18446744073709551615, in digits alone";
@@ -22,5 +22,5 @@ pub fn revert_order(options: &ArgMatches) -> Result<Order, Refusal>
         return Err(Refusal::Rule("revert: N is needed"));
     };
     let force = is_given(options, "force");
-    Ok(Order::Whole(Request::Revert { number, force }))
+    Ok(Order::Change(ChangeOrder::Whole(Change::Revert { number, force })))
 }

@@ -11,14 +11,14 @@ use super::Order;
 use super::found::{given, is_given, text};
 use super::refusal::Refusal;
 use clap::ArgMatches;
-use rec_tools::{Ask, Bytes, Form, InfoForm, Pick, Request};
+use rec_tools::{Ask, Bytes, Form, InfoForm, Look, Pick};
 use std::alloc::Global;
 
 /// What recsel is asked for.
 pub fn recsel_order(alloc: Global, options: &ArgMatches) -> Result<Order, Refusal>
     ensures { IsOrRefuses (Orders RecSel (rows_of (found_of options.now))) result }
 {
-    Ok(Order::Whole(Request::Show {
+    Ok(Order::Look(Look::Show {
         pick: pick(alloc, options)?,
         form: form(alloc, options)?,
         collapse: is_given(options, "collapse"),
@@ -29,7 +29,7 @@ pub fn recsel_order(alloc: Global, options: &ArgMatches) -> Result<Order, Refusa
 pub fn recinf_order(alloc: Global, options: &ArgMatches) -> Result<Order, Refusal>
     ensures { IsOrRefuses (Orders RecInf (rows_of (found_of options.now))) result }
 {
-    Ok(Order::Whole(Request::Info {
+    Ok(Order::Look(Look::Info {
         kind: text(alloc, options, "type")?,
         form: info_form(options)?,
     }))

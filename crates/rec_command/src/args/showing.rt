@@ -10,7 +10,7 @@ use super::numbers::edit_given;
 use super::refusal::Refusal;
 use super::style::style_of;
 use clap::ArgMatches;
-use rec_tools::Request;
+use rec_tools::Look;
 use std::alloc::Global;
 
 const NO_NUMBER: &str = "show: N must be a number from 1 to 18446744073709551615, in digits alone";
@@ -20,10 +20,10 @@ pub fn history_order(alloc: Global, options: &ArgMatches) -> Result<Order, Refus
     ensures { IsOrRefuses (Orders History (rows_of (found_of options.now))) result }
 {
     if !is_given(options, "patch") {
-        return Ok(Order::Whole(Request::History));
+        return Ok(Order::Look(Look::History));
     }
     let style = style_of(alloc, options)?;
-    Ok(Order::Whole(Request::Log(style)))
+    Ok(Order::Look(Look::Log(style)))
 }
 
 /// What show is asked for.
@@ -32,5 +32,5 @@ pub fn show_order(alloc: Global, options: &ArgMatches) -> Result<Order, Refusal>
 {
     let edit = edit_given(number(options), NO_NUMBER)?;
     let style = style_of(alloc, options)?;
-    Ok(Order::Whole(Request::Diff(edit, style)))
+    Ok(Order::Look(Look::Diff(edit, style)))
 }

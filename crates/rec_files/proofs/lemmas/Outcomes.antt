@@ -15,9 +15,9 @@ use Rattle.rec_journal.specs.Stops.{keep_in, IsSafe}
 use Rattle.rec_journal.specs.Forgetting.{forgotten_journal}
 use Rattle.rec_journal.proofs.lemmas.plans.KeptLemmas.{kept-zero, length-kept, keep_within}
 use Rattle.rec_tools.specs.Home.{Contents, Write, writes_by}
-use Rattle.rec_tools.specs.Requests.{Asked, looking, listing, showing, listing_changes, editing, moving, reverting, forgetting, previewing}
+use Rattle.rec_tools.specs.Requests.{AskedChange, editing, moving, reverting, forgetting, Asked, looking, listing, showing, listing_changes, changing, previewing}
 use Rattle.rec_tools.specs.Reverting.{IsRevertOf}
-use Rattle.rec_tools.specs.Outcomes.{Outcome, IsRequestOutcome, IsMade, IsPutBy, edit_reply, revert_reply}
+use Rattle.rec_tools.specs.Outcomes.{Outcome, IsChangeOutcome, IsRequestOutcome, IsMade, IsPutBy, edit_reply, revert_reply}
 use Rattle.rec_tools.proofs.lemmas.runs.RunLemmas.{writes_nothing}
 use Rattle.rec_files.specs.Leftovers.{BeginsAsJournal, IsStopBetween}
 
@@ -119,27 +119,30 @@ module _ (c : Contents) (regular : IsRegular c.journal) where
       by_writes outcome (writes_by plan.journal (Some plan.file)) (ap (λ (x : Outcome). x.writes) e)
       (plan_puts o _ opens plan planned_so.safe (Edited (edit_to o made.0 made.1.text made.1.steps)) planned_so.planned.2 refl refl)
 
-  puts : (asked : Asked) (o : Outcome) → IsRequestOutcome c asked (Ok o) → ArePuts c o.writes
-  puts (looking IsText) outcome is = inl (writes_nothing c (looking IsText) outcome tt is)
-  puts listing outcome is = inl (writes_nothing c listing outcome tt is)
-  puts (showing number name) outcome is = inl (writes_nothing c (showing number name) outcome tt is)
-  puts (listing_changes name) outcome is = inl (writes_nothing c (listing_changes name) outcome tt is)
-  puts (previewing name asked) outcome is = inl (writes_nothing c (previewing name asked) outcome tt is)
-  puts (editing IsEdit) outcome is = puts-put (λ _. IsMade IsEdit c.file) (λ o. edit_reply o.next o.dropped) outcome is
-  puts (reverting number force) outcome is = puts-put (λ o. IsRevertOf number force o c.file) (λ o. revert_reply number o.next) outcome is
-  puts (moving direction through) outcome (inl refused) = let e = refused.2 in cc
-  puts (moving direction through) outcome (inr (o, opens, (settled, here, m))) =
+  puts-change : (change : AskedChange) (o : Outcome) → IsChangeOutcome c change (Ok o) → ArePuts c o.writes
+  puts-change (editing IsEdit) outcome is = puts-put (λ _. IsMade IsEdit c.file) (λ o. edit_reply o.next o.dropped) outcome is
+  puts-change (reverting number force) outcome is = puts-put (λ o. IsRevertOf number force o c.file) (λ o. revert_reply number o.next) outcome is
+  puts-change (moving direction through) outcome (inl refused) = let e = refused.2 in cc
+  puts-change (moving direction through) outcome (inr (o, opens, (settled, here, m))) =
       by_writes outcome (writes_by m.plan.journal (Some m.plan.file)) (ap (λ (x : Outcome). x.writes) m.is)
       (plan_puts o _ opens m.plan m.safe (Moved direction (move_of direction o m.moves.nearest)) m.moves.recorded refl refl)
-  puts (forgetting n dropping) outcome (inl refused) = let e = refused.2 in cc
-  puts (forgetting n dropping) outcome (inr (o, opens, (settled, inl (few, e)))) = inl (ap (λ (x : Outcome). x.writes) e)
-  puts (forgetting n dropping) outcome (inr (o, opens, (settled, inr (more, f)))) = inr (record {
+  puts-change (forgetting n dropping) outcome (inl refused) = let e = refused.2 in cc
+  puts-change (forgetting n dropping) outcome (inr (o, opens, (settled, inl (few, e)))) = inl (ap (λ (x : Outcome). x.writes) e)
+  puts-change (forgetting n dropping) outcome (inr (o, opens, (settled, inr (more, f)))) = inr (record {
     journal = forgotten_journal (length o.past - (length o.past - n)) o;
     file = None;
     are = ap (λ (x : Outcome). x.writes) f.is;
     begins = begins c.file (forgotten_journal (length o.past - (length o.past - n)) o) _ f.opens;
     between = tt;
   })
+
+  puts : (asked : Asked) (o : Outcome) → IsRequestOutcome c asked (Ok o) → ArePuts c o.writes
+  puts (looking IsText) outcome is = inl (writes_nothing c (looking IsText) outcome tt is)
+  puts listing outcome is = inl (writes_nothing c listing outcome tt is)
+  puts (showing number name) outcome is = inl (writes_nothing c (showing number name) outcome tt is)
+  puts (listing_changes name) outcome is = inl (writes_nothing c (listing_changes name) outcome tt is)
+  puts (previewing name change) outcome is = inl (writes_nothing c (previewing name change) outcome tt is)
+  puts (changing change) outcome is = puts-change change outcome is
 
 -- what a request puts can be told to be left over, where a stop comes within the put
 pub puts_left : (c : Contents) (asked : Asked) (o : Outcome) → IsRegular c.journal → IsRequestOutcome c asked (Ok o) → ArePuts c o.writes

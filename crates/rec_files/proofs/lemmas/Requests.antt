@@ -10,9 +10,10 @@ use Rattle.rec_journal.specs.History.{IsRegular}
 use Rattle.rec_tools.specs.declared.home.Which.{Which}
 use Rattle.rec_tools.specs.declared.home.Which.TheVariants.{Base as TheFile, Journal as TheJournal}
 use Rattle.rec_tools.specs.declared.request.Request.{Request}
+use Rattle.rec_tools.specs.declared.request.Request.TheVariants.{Change as Changes}
 use Rattle.rec_tools.specs.Home.{Contents, Write, Call, got, lacked, unread, put_all, put_some, written, writes_by, left_by, TellsOf, TellAll, Went, content_of}
 use Rattle.rec_tools.specs.Printouts.{Printed}
-use Rattle.rec_tools.specs.Requests.{Asked, asked_of, reads_of}
+use Rattle.rec_tools.specs.Requests.{Asked, changing, change_of, asked_of, reads_of}
 use Rattle.rec_tools.specs.Outcomes.{Outcome, IsRequestOutcome}
 use Rattle.rec_tools.specs.Attempts.{Answer, gots, puts, StopsReading, AreRead, StopsWriting, Does, Attempts, AttemptsAll}
 use Rattle.rec_tools.specs.Through.{move_through, moves_through, PreviewsThrough}
@@ -411,10 +412,10 @@ module _ {H : Type 0} (place folder : List ℕ → List ℕ) (syncs : List ℕ �
   pub moves_at : (laws : StopsAreSteps) (direction : Direction) (number : ℕ) (o n : H) (x : Option Places) → at o ≡ x
       → (answers : List Answer) (calls : List Call) (printed : Printed)
       → AttemptsAll (Goes place folder syncs at story fails more) o n (moves_through direction number answers) answers calls printed
-      → IfSome x (λ p. AreRequestsAt place folder syncs p (asked_of (move_through direction number)) answers (story o) (story n))
+      → IfSome x (λ p. AreRequestsAt place folder syncs p (changing (change_of (move_through direction number))) answers (story o) (story n))
   moves_at laws direction number o n None e answers calls printed done = tt
   moves_at laws direction number o n (Some p) e answers calls printed done =
-      all_at laws (move_through direction number) p answers o n calls printed e done
+      all_at laws (Changes (move_through direction number)) p answers o n calls printed e done
 
   -- ---- a dry run of moves
 

@@ -6,13 +6,13 @@ use Rattle.rec_journal.specs.Direction.{Along}
 use Rattle.rec_journal.specs.Revisions.{LeadsBy}
 use Rattle.rec_diff.specs.declared.style.DiffStyle.{DiffStyle}
 use Rattle.rec_diff.specs.Diffs.{IsDiff}
-use Rattle.rec_tools.specs.declared.decision.Change.{Change}
+use Rattle.rec_tools.specs.declared.decision.NewFile.{NewFile}
 use Rattle.rec_tools.specs.declared.decision.Decision.{Decision}
 use Rattle.rec_tools.specs.declared.decision.Decision.TheVariants.{Stay, Put}
 use Rattle.rec_tools.specs.Home.{Contents}
 use Rattle.rec_tools.specs.Printouts.{Printout}
-use Rattle.rec_tools.specs.Requests.{Asked, previewing}
-use Rattle.rec_tools.specs.Outcomes.{LeadsAcross, IsRequestOutcome, printing, reply_in}
+use Rattle.rec_tools.specs.Requests.{AskedChange, previewing}
+use Rattle.rec_tools.specs.Outcomes.{LeadsAcross, IsChangeOutcome, IsRequestOutcome, printing, reply_in}
 use Rattle.rec_tools.specs.Attempts.{Answer}
 
 abbrev pub contents : List ℕ → List ℕ → Contents
@@ -21,35 +21,34 @@ contents file journal = record { file = file; journal = journal }
 -- a new file comes of an edit that is made or taken back, by its steps
 abbrev pub HasCourse : List ℕ → List ℕ → Decision → Type 0
 HasCourse file journal (Stay reply) = Unit {0}
-HasCourse file journal (Put new None reply) = Unit {0}
-HasCourse file journal (Put new (Some change) reply) = (e : Revision)
-    × LeadsAcross change.direction e (contents file journal) (contents change.text new) × (change.steps ≡ e.steps)
+HasCourse file journal (Put put None reply) = Unit {0}
+HasCourse file journal (Put put (Some new) reply) = (e : Revision)
+    × LeadsAcross new.direction e (contents file journal) (contents new.text put) × (new.steps ≡ e.steps)
 
 -- the new file of a decision, if there is one
-abbrev pub change_in : Decision → Option Change
-change_in (Stay reply) = None
-change_in (Put new change reply) = change
+abbrev pub new_file_in : Decision → Option NewFile
+new_file_in (Stay reply) = None
+new_file_in (Put journal new reply) = new
 
 -- its steps lead from the file, or back to it
-abbrev pub LeadsFromFile : List ℕ → Option Change → Type 0
+abbrev pub LeadsFromFile : List ℕ → Option NewFile → Type 0
 LeadsFromFile file None = Unit {0}
-LeadsFromFile file (Some change) = Along change.direction (LeadsBy change.steps) file change.text
+LeadsFromFile file (Some new) = Along new.direction (LeadsBy new.steps) file new.text
 
 -- what is printed of it
-abbrev pub IsTextOfChange : DiffStyle → List ℕ → Option Change → Result (List ℕ) Fault → Type 0
-IsTextOfChange style file None answer = answer ≡ Ok []
-IsTextOfChange style file (Some change) answer =
-    IsDiff change.direction style change.steps file change.text answer
+abbrev pub IsTextOf : DiffStyle → List ℕ → Option NewFile → Result (List ℕ) Fault → Type 0
+IsTextOf style file None answer = answer ≡ Ok []
+IsTextOf style file (Some new) answer = IsDiff new.direction style new.steps file new.text answer
 
 -- what is printed of a decision on a file
 abbrev pub IsDecisionText : DiffStyle → List ℕ → Decision → Result (List ℕ) Fault → Type 0
-IsDecisionText style file decision = IsTextOfChange style file (change_in decision)
+IsDecisionText style file decision = IsTextOf style file (new_file_in decision)
 
 -- what is printed for a preview, with its reply, or why there is none
-abbrev pub IsPreviewed : DiffStyle → List ℕ → List ℕ → Asked → Result Printout Fault → Type 0
-IsPreviewed style file journal asked (Ok p) =
-    IsRequestOutcome (contents file journal) (previewing style asked) (Ok (printing p.text p.reply))
-IsPreviewed style file journal asked (Err fault) = IsRequestOutcome (contents file journal) asked (Err fault)
+abbrev pub IsPreviewed : DiffStyle → List ℕ → List ℕ → AskedChange → Result Printout Fault → Type 0
+IsPreviewed style file journal change (Ok p) =
+    IsRequestOutcome (contents file journal) (previewing style change) (Ok (printing p.text p.reply))
+IsPreviewed style file journal change (Err fault) = IsChangeOutcome (contents file journal) change (Err fault)
 
 -- a decision's reply, or why it is refused
 abbrev pub replied : Result Decision Fault → Answer

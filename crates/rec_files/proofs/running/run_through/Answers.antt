@@ -5,17 +5,20 @@ use Rattle.rec_files.specs.Succeeding.{IsExcused, IsCareful, kept}
 use Rattle.rec_files.proofs.lemmas.Requests.{moves_at}
 use Rattle.rec_files.proofs.running.run_through.Goals as goal
 
-pub returns-clause-attempts : goal.returns-clause-attempts
-returns-clause-attempts g c =
-    let (answers, ends, calls, printed, out, done) = c.run_through.ensures.attempts in (
-      answers,
-      ends,
-      (calls, printed, out, done),
-      moves_at g.D.Disk.place g.D.Disk.folder g.D.Disk.syncs (λ home. places_by g.D.Disk.leads (option_map string_bytes home.file) (string_bytes home.journal)) (λ home. g.D.Disk.story home.disk)
-          (λ home. home.failed)
-          (λ old call new. IsExcused g.D.Disk.place g.D.Disk.leads g.D.Disk.link g.D.Disk.regular (kept g.D.Disk.number g.D.Disk.tells old)
-          (g.D.Disk.works old.disk) (g.D.Disk.works new.disk) new.failure (g.D.Disk.story old.disk) call
-          × IsCareful g.D.Disk.leads g.D.Disk.regular (kept g.D.Disk.number g.D.Disk.tells old) (kept g.D.Disk.number g.D.Disk.tells new) (g.D.Disk.story old.disk) call (g.D.Disk.story new.disk))
-          c.stops_are_steps.ensures.stops c.args.direction c.args.number c.args.home.now c.run_through.new.home
-          (places_by g.D.Disk.leads (option_map string_bytes c.args.home.now.file) (string_bytes c.args.home.now.journal)) refl answers calls printed done,
-    )
+pub returns : goal.returns
+returns g c =
+    let (answers, ends, calls, printed, silent, done) = c.run_through.ensures.attempts in
+    record {
+      attempts = (
+        answers,
+        ends,
+        (calls, printed, silent, done),
+        moves_at g.D.Disk.place g.D.Disk.folder g.D.Disk.syncs (λ home. places_by g.D.Disk.leads (option_map string_bytes home.file) (string_bytes home.journal)) (λ home. g.D.Disk.story home.disk)
+            (λ home. home.failed)
+            (λ old call new. IsExcused g.D.Disk.place g.D.Disk.leads g.D.Disk.link g.D.Disk.regular (kept g.D.Disk.number g.D.Disk.tells old)
+            (g.D.Disk.works old.disk) (g.D.Disk.works new.disk) new.failure (g.D.Disk.story old.disk) call
+            × IsCareful g.D.Disk.leads g.D.Disk.regular (kept g.D.Disk.number g.D.Disk.tells old) (kept g.D.Disk.number g.D.Disk.tells new) (g.D.Disk.story old.disk) call (g.D.Disk.story new.disk))
+            c.stops_are_steps.ensures.stops c.args.direction c.args.number c.args.home.now c.run_through.new.home
+            (places_by g.D.Disk.leads (option_map string_bytes c.args.home.now.file) (string_bytes c.args.home.now.journal)) refl answers calls printed done,
+      );
+    }

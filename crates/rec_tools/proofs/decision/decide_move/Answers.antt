@@ -17,17 +17,17 @@ returns-in-Err-clause-found c =
     rw c.refused_move-in-Err.ensures (move-refused c.args.file.now c.args.journal.now c.args.direction c.args.through _ c.in_ok-history.ensures
     (sym c.lacks.ensures ∙ c.if-lacks.false) _ c.in-Err.ensures.plan.found)
 
-pub returns-clause-found : goal.returns-clause-found
-returns-clause-found c =
+pub returns-in-Some-clause-found : goal.returns-in-Some-clause-found
+returns-in-Some-clause-found c =
     move-planned c.args.file.now c.args.journal.now c.args.direction c.args.through _ c.in_ok-history.ensures (sym c.lacks.ensures ∙ c.if-lacks.false)
     _ c.in-Ok.ensures.plan.found c.in-Ok.ensures.plan.safe _ _ c.in-Ok.ensures.nearest _ c.reply_of-reply.ensures _ (ap outcome_of c.put_plan.ensures)
 
-pub returns-clause-course : goal.returns-clause-course
-returns-clause-course c =
+pub returns-in-Some-clause-course : goal.returns-in-Some-clause-course
+returns-in-Some-clause-course c =
     let (e, nearest, steps) = c.in-Some.ensures in
     move-course c.args.file.now c.args.journal.now c.args.direction c.args.through _ c.in_ok-history.ensures _ c.in-Ok.ensures.plan.found
     c.in-Ok.ensures.plan.safe _ e nearest steps _ _ c.put_plan.ensures
 
-pub unreachable-requires : goal.unreachable-requires
-unreachable-requires c =
-    move-has_edit c.args.file.now c.args.journal.now c.args.direction c.args.through _ c.in_ok-history.ensures _ c.in-Ok.ensures.plan.found c.in-None.ensures
+pub returns-in-None : goal.returns-in-None
+returns-in-None c =
+    absurd (move-has_edit c.args.file.now c.args.journal.now c.args.direction c.args.through _ c.in_ok-history.ensures _ c.in-Ok.ensures.plan.found c.in-None.ensures)

@@ -13,7 +13,7 @@ use Rattle.rec_tools.specs.declared.decision.Decision.TheVariants.{Stay, Put}
 use Rattle.rec_tools.specs.declared.home.Which.TheVariants.{Base as TheFile, Journal as TheJournal}
 use Rattle.rec_tools.specs.Home.{Contents, Write, Call, got, TellAll, Went}
 use Rattle.rec_tools.specs.Printouts.{Printout, Printed, PutsPrintout, WentOut, IsSilence, IsShownText, IsHistory, printed_history}
-use Rattle.rec_tools.specs.Requests.{Asked, looking, listing, showing, listing_changes, editing, moving, reverting, forgetting, previewing, reads_of, IsSilent, WritesNothing}
+use Rattle.rec_tools.specs.Requests.{Asked, looking, listing, showing, listing_changes, changing, previewing, reads_of}
 use Rattle.rec_tools.specs.Outcomes.{Outcome, printing, outcome_of, IsPrinting, IsRequestOutcome}
 use Rattle.rec_tools.specs.proving.Silently.{ByCalls, DoesSilently}
 use Rattle.rec_tools.specs.Attempts.{Answer, gots, puts, IsPrefix, StopsReading, StopsWriting, IsAnswered, Does, Attempts}
@@ -66,13 +66,10 @@ stopped-tells_both (call ∷ calls) fault (inr (inr stops)) = (file_alone stops.
 stopped-tells : (asked : Asked) (calls : List Call) (fault : Fault) → StopsReading (reads_of asked) calls fault → (c : Contents) × TellAll c calls
 stopped-tells (looking IsText) calls fault stops = stopped-tells_one calls fault stops
 stopped-tells listing calls fault stops = stopped-tells_both calls fault stops
-stopped-tells (editing IsEdit) calls fault stops = stopped-tells_both calls fault stops
-stopped-tells (moving direction through) calls fault stops = stopped-tells_both calls fault stops
-stopped-tells (reverting number force) calls fault stops = stopped-tells_both calls fault stops
-stopped-tells (forgetting n dropping) calls fault stops = stopped-tells_both calls fault stops
+stopped-tells (changing change) calls fault stops = stopped-tells_both calls fault stops
 stopped-tells (showing number style) calls fault stops = stopped-tells_both calls fault stops
 stopped-tells (listing_changes style) calls fault stops = stopped-tells_both calls fault stops
-stopped-tells (previewing style asked) calls fault stops = stopped-tells asked calls fault stops
+stopped-tells (previewing style change) calls fault stops = stopped-tells_both calls fault stops
 
 module _ {H : Type 0} (goes : H → Call → H → Type 0) where
   pub silently-unread : (old new : H) (asked : Asked) (fault : Fault) → ByCalls goes old new (λ calls. StopsReading (reads_of asked) calls fault)
@@ -177,18 +174,6 @@ both_got file journal later c tells =
 -- both contents are read for it
 abbrev pub ReadsBoth : Asked → Type 0
 ReadsBoth asked = reads_of asked ≡ TheFile ∷ TheJournal ∷ []
-
--- so they are for all that prints nothing
-pub silent-reads_both : (asked : Asked) → IsSilent asked → ReadsBoth asked
-silent-reads_both (looking IsText) silent = absurd silent
-silent-reads_both listing silent = absurd silent
-silent-reads_both (editing IsEdit) silent = refl
-silent-reads_both (moving direction through) silent = refl
-silent-reads_both (showing number style) silent = absurd silent
-silent-reads_both (listing_changes style) silent = absurd silent
-silent-reads_both (reverting number force) silent = refl
-silent-reads_both (forgetting n dropping) silent = refl
-silent-reads_both (previewing style asked) silent = absurd silent
 
 does-refused : (asked : Asked) (c : Contents) (fault : Fault) (p : Printed) → ReadsBoth asked → IsMemoryOr fault (IsRequestOutcome c asked (Err fault)) → IsSilence p
     → Does c asked (Err fault) (got TheFile c.file ∷ got TheJournal c.journal ∷ []) p

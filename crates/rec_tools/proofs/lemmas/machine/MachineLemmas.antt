@@ -12,17 +12,17 @@ use Rattle.rec_diff.specs.Diffs.{IsDiff}
 use Rattle.rec_diff.proofs.lemmas.DiffLemmas.{one_diff}
 use Rattle.rec_tools.specs.declared.request.Reply.{Reply}
 use Rattle.rec_tools.specs.Printouts.{Printout, ComesOut, Told}
-use Rattle.rec_tools.specs.Requests.{Asked, looking, listing, showing, listing_changes, editing, moving, reverting, forgetting, previewing, asked_of}
+use Rattle.rec_tools.specs.Requests.{AskedChange, editing, moving, reverting, forgetting, Asked, looking, listing, showing, listing_changes, changing, previewing, asked_of}
 use Rattle.rec_tools.specs.Reverting.{Standing}
 use Rattle.rec_tools.specs.Outcomes.{IsMade, edit_reply, revert_reply}
 use Rattle.rec_tools.specs.Attempts.{Answer}
-use Rattle.rec_tools.specs.Machine.{Entry, State, IsMachineStep, IsEditStep, IsMadeStep, IsRevertIn, IsMoveStep, LetsGo, lost_entries, IsShowingStep, IsStepDiff}
+use Rattle.rec_tools.specs.Machine.{Entry, State, IsChangeStep, IsMachineStep, IsEditStep, IsMadeStep, IsRevertIn, IsMoveStep, LetsGo, lost_entries, IsShowingStep, IsStepDiff}
 use Rattle.rec_tools.specs.Machine.{standing_at, entries_on, told_edit, told_in}
 use Rattle.rec_tools.specs.Laws.{OneStep}
 use Rattle.rec_text.proofs.lemmas.FaultLemmas.{no_both}
 use Rattle.rec_text.proofs.lemmas.StepLemmas.{HasOneBut, refused_too}
 use Rattle.rec_tools.proofs.lemmas.outcomes.EditLemmas.{one_made}
-use Rattle.rec_tools.proofs.lemmas.outcomes.OutcomeLemmas.{MeansOne, one_meaning, same_top}
+use Rattle.rec_tools.proofs.lemmas.outcomes.OutcomeLemmas.{ChangesOne, MeansOne, one_meaning, same_top}
 use Rattle.rec_tools.proofs.lemmas.outcomes.AnswerLemmas.{HasOneBut-once_read}
 use Rattle.rec_tools.proofs.lemmas.outcomes.RevertLemmas.{one_reverted}
 use Rattle.rec_tools.proofs.lemmas.printing.LogLemmas.{one_log}
@@ -114,6 +114,16 @@ one_step_diff style s t one other (inr (differs, (Backward, entry, top, diff))) 
 -- ---- one step
 
 module _ (s : State) (one other : Answer) (built : one ≢ Err BadPattern) (built_too : other ≢ Err BadPattern) where
+  -- a change has one step
+  one_change_step : (change : AskedChange) (t u : State) → ChangesOne change → IsChangeStep s change one t → IsChangeStep s change other u → (one ≡ other) × (t ≡ u)
+  one_change_step (editing IsEdit) t u means is is_too =
+      one_made_step s (edit_reply s.next 0) (IsMade IsEdit s.present) (one_made IsEdit means s.present) one other t u built built_too is is_too
+  one_change_step (reverting number force) t u means is is_too =
+      one_made_step s (revert_reply number s.next) (IsRevertIn force s.present (standing_at number s)) (one_revert_in s force (standing_at number s)) one other t u built built_too is is_too
+  one_change_step (moving direction through) t u means is is_too = one_move_step direction through s (entries_on direction s) one other t u is is_too
+  one_change_step (forgetting n dropping) t u means is is_too =
+      one_letting_go (length s.past - n) (if dropping then lost_entries s else 0) s one other t u is is_too
+
   -- what is asked for has one step
   one_step_of : (asked : Asked) (text printed : List ℕ) (t u : State) → MeansOne asked → IsMachineStep s asked one text t → IsMachineStep s asked other printed u
       → (one ≡ other) × (text ≡ printed) × (t ≡ u)
@@ -127,23 +137,13 @@ module _ (s : State) (one other : Answer) (built : one ≢ Err BadPattern) (buil
       (both.0, both.1, e ∙ sym k)
   one_step_of (listing_changes style) text printed t u means (is, log, e) (is_too, log_too, k) =
       (is ∙ sym is_too, one_log style (told_in s) text printed log log_too, e ∙ sym k)
-  one_step_of (previewing style asked) text printed t u means (own, next, step, diff, e) (also, later, step_too, diff_too, k) =
-      let same = one_step_of asked own also next later means step step_too in
-      (same.0, one_step_diff style s later text printed (subst (λ v. IsStepDiff style s v text) same.2 diff) diff_too, e ∙ sym k)
+  one_step_of (changing change) text printed t u means (step, e) (step_too, k) =
+      let same = one_change_step change t u means step step_too in
+      (same.0, e ∙ sym k, same.1)
+  one_step_of (previewing style change) text printed t u means (next, step, diff, e) (later, step_too, diff_too, k) =
+      let same = one_change_step change next later means step step_too in
+      (same.0, one_step_diff style s later text printed (subst (λ v. IsStepDiff style s v text) same.1 diff) diff_too, e ∙ sym k)
   one_step_of listing text printed t u means is is_too = (is.0 ∙ sym is_too.0, is.1 ∙ sym is_too.1, is.2 ∙ sym is_too.2)
-  one_step_of (editing IsEdit) text printed t u means (step, e) (step_too, k) =
-      let both = one_made_step s (edit_reply s.next 0) (IsMade IsEdit s.present) (one_made IsEdit means s.present) one other t u built built_too step step_too in
-      (both.0, e ∙ sym k, both.1)
-  one_step_of (reverting number force) text printed t u means (step, e) (step_too, k) =
-      let both = one_made_step s (revert_reply number s.next) (IsRevertIn force s.present (standing_at number s)) (one_revert_in s force (standing_at number s)) one other t u
-      built built_too step step_too in
-      (both.0, e ∙ sym k, both.1)
-  one_step_of (moving direction through) text printed t u means (step, e) (step_too, k) =
-      let both = one_move_step direction through s (entries_on direction s) one other t u step step_too in
-      (both.0, e ∙ sym k, both.1)
-  one_step_of (forgetting n dropping) text printed t u means (step, e) (step_too, k) =
-      let both = one_letting_go (length s.past - n) (if dropping then lost_entries s else 0) s one other t u step step_too in
-      (both.0, e ∙ sym k, both.1)
 
 pub one_step : OneStep
 one_step s request one other text printed t u is is_too built built_too =

@@ -15,9 +15,9 @@ use Rattle.rec_diff.specs.Diffs.{IsDiff}
 use Rattle.rec_diff.proofs.lemmas.DiffLemmas.{no_refused_diff}
 use Rattle.rec_tools.specs.Home.{Contents, written}
 use Rattle.rec_tools.specs.Printouts.{Printout, told_of, IsShownText, IsShownEdit, IsWholeLog, IsLog}
-use Rattle.rec_tools.specs.Requests.{Asked, showing, listing_changes, previewing}
-use Rattle.rec_tools.specs.Outcomes.{Outcome, IsRequestOutcome, IsPrinting, IsPreviewText, OnTop, printing}
-use Rattle.rec_tools.specs.Machine.{Entry, State, AreEntries, Stands, IsMachineStep, IsShowingStep, IsStepDiff, told_in}
+use Rattle.rec_tools.specs.Requests.{AskedChange, showing, listing_changes, changing, previewing}
+use Rattle.rec_tools.specs.Outcomes.{Outcome, IsChangeOutcome, IsRequestOutcome, IsPrinting, IsPreviewText, OnTop, printing}
+use Rattle.rec_tools.specs.Machine.{Entry, State, AreEntries, Stands, IsChangeStep, IsMachineStep, IsShowingStep, IsStepDiff, told_in}
 use Rattle.rec_tools.specs.Guarantee.{StepsAsMachine}
 use Rattle.rec_text.proofs.lemmas.FaultLemmas.{no_both, same_fault}
 use Rattle.rec_tools.proofs.lemmas.machine.StandsLemmas.{StandsBy, stands_by, can_be_opened, one_list_of_entries}
@@ -114,16 +114,15 @@ module _ (c d : Contents) (s t : State) (stands : Stands c s) (reached : Stands 
           let has = top_of e p.past s.past t.past c.file d.file (subst (λ es. AreEntries Backward es s.past c.file) top here.past) leads there.past in
           (Backward, has.entry, has.are, in_states Backward e.steps has.entry.steps has.steps diff)
 
-module _ (c : Contents) (s : State) (stands : Stands c s) (style : DiffStyle) (asked : Asked)
-    (steps : (r : Result Outcome Fault) → IsRequestOutcome c asked r → StepsAsMachine c s asked r) where
-  pub previews_step : (r : Result Outcome Fault) → IsRequestOutcome c (previewing style asked) r → StepsAsMachine c s (previewing style asked) r
+module _ (c : Contents) (s : State) (stands : Stands c s) (style : DiffStyle) (change : AskedChange)
+    (steps : (r : Result Outcome Fault) → IsChangeOutcome c change r → StepsAsMachine c s (changing change) r) where
+  pub previews_step : (r : Result Outcome Fault) → IsRequestOutcome c (previewing style change) r → StepsAsMachine c s (previewing style change) r
   previews_step (Ok outcome) (would, is, preview) =
       let next = steps (Ok would) is in (
         s,
         (
-          would.text,
           next.0,
-          subst (λ reply. IsMachineStep s asked (Ok reply) would.text next.0) (sym preview.reply) next.1,
+          subst (λ reply. IsChangeStep s change (Ok reply) next.0) (sym preview.reply) next.1.0,
           step_diff c (written c would.writes) s next.0 stands next.2 style outcome.text preview.text,
           refl,
         ),
@@ -131,7 +130,7 @@ module _ (c : Contents) (s : State) (stands : Stands c s) (style : DiffStyle) (a
       )
   previews_step (Err fault) is =
       elim (steps (Err fault) is) [
-        | inl step ↦ inl ([], s, step, inl (refl, refl), refl)
+        | inl step ↦ inl (s, step.0, inl (refl, refl), refl)
         | inr clash ↦ inr (
           clash.0,
           record { reply = clash.1.reply; later = clash.1.later; step = clash.1.step; differ = clash.1.differ; same_digest = clash.1.same_digest },

@@ -22,11 +22,11 @@ use Rattle.rec_tools.specs.declared.request.Reply.TheVariants.{Shown, Edited as 
 use Rattle.rec_tools.specs.Home.{Contents}
 use Rattle.rec_tools.specs.Steps.{Then}
 use Rattle.rec_tools.specs.Printouts.{Printout, history_text, printed_history}
-use Rattle.rec_tools.specs.Requests.{Edits, Asked, looking, listing, showing, listing_changes, editing, moving, reverting, forgetting, previewing, asked_of}
+use Rattle.rec_tools.specs.Requests.{Edits, AskedChange, editing, moving, reverting, forgetting, Asked, looking, listing, showing, listing_changes, changing, previewing, asked_of}
 use Rattle.rec_tools.specs.Reverting.{IsRevertOf}
-use Rattle.rec_tools.specs.Outcomes.{Outcome, IsRequestOutcome, IsPrinting, IsMade, IsEditOutcome, IsPutBy, IsPlanned, IsMove, IsMoveOutcome, IsLetGo, IsForgetting, Forgets}
+use Rattle.rec_tools.specs.Outcomes.{Outcome, IsChangeOutcome, IsRequestOutcome, IsPrinting, IsMade, IsEditOutcome, IsPutBy, IsPlanned, IsMove, IsMoveOutcome, IsLetGo, IsForgetting, Forgets}
 use Rattle.rec_tools.specs.Outcomes.{edit_reply, revert_reply, printing, staying, putting, reply_of}
-use Rattle.rec_tools.specs.Machine.{Entry, State, AreEntries, Stands, IsMachineStep, IsMadeStep, IsRevertIn, IsMoveStep, Clashes, standing_at, itself, entries_on, numbers_in}
+use Rattle.rec_tools.specs.Machine.{Entry, State, AreEntries, Stands, IsChangeStep, IsMadeStep, IsRevertIn, IsMoveStep, Clashes, standing_at, entries_on, numbers_in}
 use Rattle.rec_tools.specs.Machine.{state_history, state_after_edit, state_after_move, state_after_forgetting, lost_entries}
 use Rattle.rec_tools.specs.Guarantee.{StepsAsMachine, OutcomesAreSteps}
 use Rattle.rec_text.proofs.lemmas.FaultLemmas.{ok_is_no_err}
@@ -180,12 +180,11 @@ module _ (c : Contents) (s : State) (stands : Stands c s) where
   read_present : {A : Type 0} (next : Result A Fault → Type 0) (r : Result A Fault) → Then (IsDescribedText c.file) (λ _. next) r → Then (IsDescribedText s.present) (λ _. next) r
   read_present next r is = subst (λ text. Then (IsDescribedText text) (λ _. next) r) (sym stands.present) is
 
-  -- where what is asked for is a step by what is made of the state's text
-  module _ (asked : Asked) (Makes : Result (Tool × Edited) Fault → Type 0) (reply_for : Tool → Edited → Reply)
-      (steps : (answer : Answer) (t : State) → IsMadeStep s reply_for Makes answer t → IsMachineStep s asked answer [] t)
-      (steps_itself : (answer : Answer) (t : State) → IsMadeStep s reply_for Makes answer t → IsMachineStep s (itself asked) answer [] t) where
-    made_refused : (fault : Fault) → Then (IsDescribedText s.present) (λ _. Makes) (Err fault) → StepsAsMachine c s asked (Err fault)
-    made_refused fault is = inl (steps (Err fault) s (Err fault, is, (refl, refl)))
+  -- where a change is a step by what is made of the state's text
+  module _ (change : AskedChange) (Makes : Result (Tool × Edited) Fault → Type 0) (reply_for : Tool → Edited → Reply)
+      (steps : (answer : Answer) (t : State) → IsMadeStep s reply_for Makes answer t → IsChangeStep s change answer t) where
+    made_refused : (fault : Fault) → Then (IsDescribedText s.present) (λ _. Makes) (Err fault) → StepsAsMachine c s (changing change) (Err fault)
+    made_refused fault is = inl (steps (Err fault) s (Err fault, is, (refl, refl)), refl)
 
     module _ (tool : Tool) (made : Edited) (is : Then (IsDescribedText s.present) (λ _. Makes) (Ok (tool, made))) where
       module _ (differs : made.text ≢ c.file) where
@@ -195,11 +194,11 @@ module _ (c : Contents) (s : State) (stands : Stands c s) where
         step : IsMadeStep s reply_for Makes (Ok (reply_for tool made)) (state_after_edit s tool made.steps made.text)
         step = (Ok (tool, made), is, inr (other, refl, refl))
 
-        clashes : ShareDigest c.file made.text → Clashes s asked
+        clashes : ShareDigest c.file made.text → Clashes s (changing change)
         clashes same = record {
           reply = reply_for tool made;
           later = state_after_edit s tool made.steps made.text;
-          step = steps_itself (Ok (reply_for tool made)) (state_after_edit s tool made.steps made.text) step;
+          step = steps (Ok (reply_for tool made)) (state_after_edit s tool made.steps made.text) step;
           differ = other;
           same_digest = subst (λ t. ShareDigest t made.text) (sym stands.present) same;
         }
@@ -228,39 +227,39 @@ module _ (c : Contents) (s : State) (stands : Stands c s) where
           }
 
       edit_steps : (o : Opened) (reply : Reply) → reply ≡ reply_for tool made → (r : Result Outcome Fault) → Opens c.file c.journal o → IsEditOutcome o c tool made reply r
-          → StepsAsMachine c s asked r
+          → StepsAsMachine c s (changing change) r
       edit_steps o reply told (Ok outcome) opens (inl (same, e)) =
-          subst (λ x. StepsAsMachine c s asked (Ok x)) (sym e)
-          (s, steps (Ok (Unchanged made.chosen)) s (Ok (tool, made), is, inl (same ∙ sym stands.present, refl, refl)), stands)
+          subst (λ x. StepsAsMachine c s (changing change) (Ok x)) (sym e)
+          (s, (steps (Ok (Unchanged made.chosen)) s (Ok (tool, made), is, inl (same ∙ sym stands.present, refl, refl)), refl), stands)
       edit_steps o reply told (Ok outcome) opens (inr (differs, (plan, planned, e))) =
           let after : State = state_after_edit s tool made.steps made.text in
-          subst (λ x. StepsAsMachine c s asked (Ok x)) (sym (e ∙ ap (putting plan) told))
-          (after, steps (Ok (reply_for tool made)) after (step differs), stands_after_edit o plan opens planned)
+          subst (λ x. StepsAsMachine c s (changing change) (Ok x)) (sym (e ∙ ap (putting plan) told))
+          (after, (steps (Ok (reply_for tool made)) after (step differs), refl), stands_after_edit o plan opens planned)
       edit_steps o reply told (Err fault) opens (differs, e, same) = inr (e, clashes differs same)
 
     -- it is what is put in place, by the history for which the contents stand
     module _ (MakesOf : Opened → Result (Tool × Edited) Fault → Type 0) (replies : Opened → Tool → Edited → Reply)
         (goes : (o : Opened) → Opens c.file c.journal o → (r : Result (Tool × Edited) Fault) → MakesOf o r → Makes r)
         (alike : (o : Opened) → Opens c.file c.journal o → (tool : Tool) (made : Edited) → replies o tool made ≡ reply_for tool made) where
-      made_step : (r : Result Outcome Fault) → IsPutBy MakesOf replies c r → StepsAsMachine c s asked r
+      made_step : (r : Result Outcome Fault) → IsPutBy MakesOf replies c r → StepsAsMachine c s (changing change) r
       made_step r (inl (fault, refused, e)) =
-          subst (λ x. StepsAsMachine c s asked x) (sym e) (made_refused fault (read_present Makes (Err fault) (inl (fault, refused, refl))))
+          subst (λ x. StepsAsMachine c s (changing change) x) (sym e) (made_refused fault (read_present Makes (Err fault) (inl (fault, refused, refl))))
       made_step r (inr (text, is, inl (fault, refused, e))) = absurd (no_refusal fault refused)
       made_step r (inr (text, is, inr (o, opens, inl (fault, refused, e)))) =
-          subst (λ x. StepsAsMachine c s asked x) (sym e) (made_refused fault (read_present Makes (Err fault) (inr (text, is, goes o opens (Err fault) refused))))
+          subst (λ x. StepsAsMachine c s (changing change) x) (sym e) (made_refused fault (read_present Makes (Err fault) (inr (text, is, goes o opens (Err fault) refused))))
       made_step r (inr (text, is, inr (o, opens, inr ((tool, made), done, last)))) =
           edit_steps tool made (read_present Makes (Ok (tool, made)) (inr (text, is, goes o opens (Ok (tool, made)) done))) o (replies o tool made) (alike o opens tool made) r opens last
 
-  edits_step : (IsEdit : Result Edits Fault → Type 0) (r : Result Outcome Fault) → IsRequestOutcome c (editing IsEdit) r → StepsAsMachine c s (editing IsEdit) r
+  edits_step : (IsEdit : Result Edits Fault → Type 0) (r : Result Outcome Fault) → IsChangeOutcome c (editing IsEdit) r → StepsAsMachine c s (changing (editing IsEdit)) r
   edits_step IsEdit r is =
-      made_step (editing IsEdit) (IsMade IsEdit s.present) (edit_reply s.next 0) (λ answer t h. (h, refl)) (λ answer t h. (h, refl))
+      made_step (editing IsEdit) (IsMade IsEdit s.present) (edit_reply s.next 0) (λ answer t h. h)
       (λ _. IsMade IsEdit c.file) (λ o. edit_reply o.next o.dropped)
       (λ o opens made h. subst (λ text. IsMade IsEdit text made) (sym stands.present) h)
       (λ o opens tool made. (let by = by_opening o opens in ap₂ (EditedReply made.changed) (sym by.next) by.none_dropped)) r is
 
-  reverts_step : (number : ℕ) (force : Bool) (r : Result Outcome Fault) → IsRequestOutcome c (reverting number force) r → StepsAsMachine c s (reverting number force) r
+  reverts_step : (number : ℕ) (force : Bool) (r : Result Outcome Fault) → IsChangeOutcome c (reverting number force) r → StepsAsMachine c s (changing (reverting number force)) r
   reverts_step number force r is =
-      made_step (reverting number force) (IsRevertIn force s.present (standing_at number s)) (revert_reply number s.next) (λ answer t h. (h, refl)) (λ answer t h. (h, refl))
+      made_step (reverting number force) (IsRevertIn force s.present (standing_at number s)) (revert_reply number s.next) (λ answer t h. h)
       (λ o. IsRevertOf number force o c.file) (λ o. revert_reply number o.next)
       (λ o opens made h. reverts_alike o c s (by_opening o opens) opens number force made h)
       (λ o opens tool made. ap (Reverted number tool) (sym (by_opening o opens).next)) r is
@@ -275,13 +274,13 @@ module _ (c : Contents) (s : State) (stands : Stands c s) where
     same_numbers = numbered_alike direction (edits_on direction o) (entries_on direction s) c.file (are_on direction o c s by)
 
     moved : (outcome : Outcome) → is_missing through (numbers_on direction o) ≡ false → IsMoveOutcome direction o c outcome
-        → StepsAsMachine c s (moving direction through) (Ok outcome)
+        → StepsAsMachine c s (changing (moving direction through)) (Ok outcome)
     moved outcome here m =
         let has = has_nearest direction o c s m.moves.nearest m.moves.others by m.moves.there in
         let t = state_after_move direction s has.entry has.entries in
         let nearest = m.moves.nearest in
         let reply = reply_of direction nearest.number nearest.tool in
-        subst (λ x. StepsAsMachine c s (moving direction through) (Ok x)) (sym m.is) (
+        subst (λ x. StepsAsMachine c s (changing (moving direction through)) (Ok x)) (sym m.is) (
           t,
           (
             subst (λ es. IsMoveStep direction through s es (Ok reply) t) (sym has.are) (inr (
@@ -301,7 +300,7 @@ module _ (c : Contents) (s : State) (stands : Stands c s) where
         let has = has_nearest direction o c s nowhere.nearest nowhere.others by nowhere.there in
         nowhere.none has.entry.text has.leads
 
-    move_steps : (r : Result Outcome Fault) → IsMove direction through o c r → StepsAsMachine c s (moving direction through) r
+    move_steps : (r : Result Outcome Fault) → IsMove direction through o c r → StepsAsMachine c s (changing (moving direction through)) r
     move_steps (Ok outcome) (settled, here, m) = moved outcome here m
     move_steps (Err fault) (inl (e, settled, missing)) =
         inl (missing_step direction through s (entries_on direction s) fault (subst (λ ns. is_missing through ns ≡ true) same_numbers missing) e, refl)
@@ -313,7 +312,7 @@ module _ (c : Contents) (s : State) (stands : Stands c s) where
         inl (subst (λ es. IsMoveStep direction through s es (Err fault) s) (sym none) (ap Err e, refl), refl)
 
   moves_step : (direction : Direction) (through : Option ℕ) (r : Result Outcome Fault) → Then (IsOpening c.file c.journal) (λ o. IsMove direction through o c) r
-      → StepsAsMachine c s (moving direction through) r
+      → StepsAsMachine c s (changing (moving direction through)) r
   moves_step direction through r (inl (fault, refused, e)) = absurd (no_refusal fault refused)
   moves_step direction through r (inr (o, opens, move)) = move_steps direction through o opens r move
 
@@ -348,15 +347,15 @@ module _ (c : Contents) (s : State) (stands : Stands c s) where
         subst (λ k. ((k - n + dropped ≡ 0) × (outcome ≡ staying (Forgotten (k - n) dropped))) ⊎ ((0 < k - n + dropped) × Forgets (k - (k - n)) o c (Forgotten (k - n) dropped) outcome))
         as_many of_dropped
 
-    forgotten : (outcome : Outcome) → 0 < older + dropped → Forgets left o c (Forgotten older dropped) outcome → StepsAsMachine c s (forgetting n dropping) (Ok outcome)
+    forgotten : (outcome : Outcome) → 0 < older + dropped → Forgets left o c (Forgotten older dropped) outcome → StepsAsMachine c s (changing (forgetting n dropping)) (Ok outcome)
     forgotten outcome some f =
-        subst (λ x. StepsAsMachine c s (forgetting n dropping) (Ok x)) (sym f.is)
+        subst (λ x. StepsAsMachine c s (changing (forgetting n dropping)) (Ok x)) (sym f.is)
         (state_after_forgetting left s, ((refl, inr (some, refl)), refl), stands_after_forgetting left o c s history f.opens)
 
-    stayed : (outcome : Outcome) → older + dropped ≡ 0 → outcome ≡ staying (Forgotten older dropped) → StepsAsMachine c s (forgetting n dropping) (Ok outcome)
-    stayed outcome none e = subst (λ x. StepsAsMachine c s (forgetting n dropping) (Ok x)) (sym e) (s, ((refl, inl (none, refl)), refl), stands)
+    stayed : (outcome : Outcome) → older + dropped ≡ 0 → outcome ≡ staying (Forgotten older dropped) → StepsAsMachine c s (changing (forgetting n dropping)) (Ok outcome)
+    stayed outcome none e = subst (λ x. StepsAsMachine c s (changing (forgetting n dropping)) (Ok x)) (sym e) (s, ((refl, inl (none, refl)), refl), stands)
 
-    forgetting_steps : (r : Result Outcome Fault) → IsForgetting n dropping o c r → StepsAsMachine c s (forgetting n dropping) r
+    forgetting_steps : (r : Result Outcome Fault) → IsForgetting n dropping o c r → StepsAsMachine c s (changing (forgetting n dropping)) r
     forgetting_steps (Ok outcome) (settled, goes) =
         elim (let_go_alike outcome goes) [
           | inl stays ↦ stayed outcome stays.0 stays.1
@@ -365,22 +364,27 @@ module _ (c : Contents) (s : State) (stands : Stands c s) where
     forgetting_steps (Err fault) (e, drifted) = absurd (false≢true (sym history.settled ∙ drifted))
 
   forgets_step : (n : ℕ) (dropping : Bool) (r : Result Outcome Fault) → Then (IsOpening c.file c.journal) (λ o. IsForgetting n dropping o c) r
-      → StepsAsMachine c s (forgetting n dropping) r
+      → StepsAsMachine c s (changing (forgetting n dropping)) r
   forgets_step n dropping r (inl (fault, refused, e)) = absurd (no_refusal fault refused)
   forgets_step n dropping r (inr (o, opens, forgets)) = forgetting_steps n dropping o opens r forgets
 
--- whatever it comes to on contents that stand for a state, the machine steps so
+-- whatever a change comes to on contents that stand for a state, the machine steps so
+pub changes_are_steps : (c : Contents) (s : State) (change : AskedChange) (r : Result Outcome Fault)
+    → Stands c s → IsChangeOutcome c change r → StepsAsMachine c s (changing change) r
+changes_are_steps c s (editing IsEdit) r stands is = edits_step c s stands IsEdit r is
+changes_are_steps c s (moving direction through) r stands is = moves_step c s stands direction through r is
+changes_are_steps c s (reverting number force) r stands is = reverts_step c s stands number force r is
+changes_are_steps c s (forgetting n dropping) r stands is = forgets_step c s stands n dropping r is
+
+-- and so it does for all that is asked for
 pub outcomes_are_steps : (c : Contents) (s : State) (asked : Asked) (r : Result Outcome Fault)
     → Stands c s → IsRequestOutcome c asked r → StepsAsMachine c s asked r
 outcomes_are_steps c s (looking IsText) r stands is = looks_step c s stands IsText r is
 outcomes_are_steps c s listing r stands is = lists_step c s stands r is
 outcomes_are_steps c s (showing number style) r stands is = shows_step c s stands number style r is
 outcomes_are_steps c s (listing_changes style) r stands is = logs_step c s stands style r is
-outcomes_are_steps c s (previewing style asked) r stands is = previews_step c s stands style asked (λ r is. outcomes_are_steps c s asked r stands is) r is
-outcomes_are_steps c s (editing IsEdit) r stands is = edits_step c s stands IsEdit r is
-outcomes_are_steps c s (moving direction through) r stands is = moves_step c s stands direction through r is
-outcomes_are_steps c s (reverting number force) r stands is = reverts_step c s stands number force r is
-outcomes_are_steps c s (forgetting n dropping) r stands is = forgets_step c s stands n dropping r is
+outcomes_are_steps c s (changing change) r stands is = changes_are_steps c s change r stands is
+outcomes_are_steps c s (previewing style change) r stands is = previews_step c s stands style change (λ r is. changes_are_steps c s change r stands is) r is
 
 pub of_requests : OutcomesAreSteps
 of_requests c s request r stands is = outcomes_are_steps c s (asked_of request) r stands is

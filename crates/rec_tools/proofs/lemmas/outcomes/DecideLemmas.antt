@@ -36,7 +36,7 @@ use Rattle.rec_tools.specs.Steps.{Then}
 use Rattle.rec_tools.specs.Batches.{AreEdits}
 use Rattle.rec_tools.specs.Requests.{moving, IsTaskOf, AreTasks, IsOneEdit, IsBatch}
 use Rattle.rec_tools.specs.Making.{AreMade}
-use Rattle.rec_tools.specs.Outcomes.{Outcome, IsMade, IsEditOutcome, IsPutBy, IsRequestOutcome, OnTop, putting, outcome_of, outcome_in, reply_of}
+use Rattle.rec_tools.specs.Outcomes.{Outcome, IsMade, IsEditOutcome, IsPutBy, IsChangeOutcome, OnTop, putting, outcome_of, outcome_in, reply_of}
 use Rattle.rec_tools.specs.proving.Courses.{HasCourse}
 use Rattle.rec_tools.specs.proving.Editing.{HasSteps}
 use Rattle.rec_text.proofs.lemmas.FaultLemmas.{memory_or_weaker, no_both, ok_is_no_err, same_fault, same_value}
@@ -278,7 +278,7 @@ module _ (file journal : List ℕ) (direction : Direction) (through : Option ℕ
   abbrev contents : Contents
   contents = record { file = file; journal = journal }
 
-  pub move-no_opening : (fault : Fault) → IsMemoryOr fault (IsOpening file journal (Err fault)) → IsMemoryOr fault (IsRequestOutcome contents (moving direction through) (Err fault))
+  pub move-no_opening : (fault : Fault) → IsMemoryOr fault (IsOpening file journal (Err fault)) → IsMemoryOr fault (IsChangeOutcome contents (moving direction through) (Err fault))
   move-no_opening fault h = memory_or_weaker fault _ _ (λ none. inl (fault, none, refl)) h
 
   module _ (o : Opened) (opens : IsOpening file journal (Ok o)) where
@@ -294,11 +294,11 @@ module _ (file journal : List ℕ) (direction : Direction) (through : Option ℕ
         no_edits Backward drifted = (drifted-empty file journal o opens drifted).0
         no_edits Forward drifted = (drifted-empty file journal o opens drifted).1
 
-    pub move-missing : true ≡ is_missing through (numbers_on direction o) → IsRequestOutcome contents (moving direction through) (Err NoSuchEdit)
+    pub move-missing : true ≡ is_missing through (numbers_on direction o) → IsChangeOutcome contents (moving direction through) (Err NoSuchEdit)
     move-missing missing = inr (o, opens, inl (refl, missing-settled (sym missing), sym missing))
 
     pub move-refused : is_missing through (numbers_on direction o) ≡ false → (fault : Fault) → IsMemoryOr fault (IsMovePlan direction o file journal (Err fault))
-        → IsMemoryOr fault (IsRequestOutcome contents (moving direction through) (Err fault))
+        → IsMemoryOr fault (IsChangeOutcome contents (moving direction through) (Err fault))
     move-refused here fault h = memory_or_weaker fault _ _ (λ refused. inr (o, opens, inr (here, refused))) h
 
     -- where a move is planned, there is an edit that way
@@ -334,7 +334,7 @@ module _ (file journal : List ℕ) (direction : Direction) (through : Option ℕ
     pub move-planned : is_missing through (numbers_on direction o) ≡ false → (plan : Plan) → IsMovePlan direction o file journal (Ok plan)
         → ((e : Revision) (others : List Revision) → edits_on direction o ≡ e ∷ others → IsSafe file journal o (after_move direction o journal e others) plan)
         → (number : ℕ) (tool : Tool) → TellsNearest direction o number tool → (reply : Reply) → reply ≡ reply_of direction number tool
-        → (outcome : Outcome) → outcome ≡ putting plan reply → IsRequestOutcome contents (moving direction through) (Ok outcome)
+        → (outcome : Outcome) → outcome ≡ putting plan reply → IsChangeOutcome contents (moving direction through) (Ok outcome)
     move-planned here plan planned safe number tool (nearest, others, there, named, by) reply replied outcome put =
         let moves = planned.1 in
         let same : nearest ≡ moves.nearest = same_nearest (sym there ∙ moves.there) in

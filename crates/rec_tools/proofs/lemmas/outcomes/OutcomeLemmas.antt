@@ -41,16 +41,22 @@ use Rattle.rec_edit.specs.declared.answer.Edited.{Edited}
 use Rattle.rec_tools.specs.declared.request.Form.{Form}
 use Rattle.rec_tools.specs.declared.request.Form.TheVariants.{Blocks, Print, Values, Row, Count}
 use Rattle.rec_tools.specs.declared.request.Pick.{Pick}
-use Rattle.rec_tools.specs.declared.request.Request.{Request, Show, Info, Check, Edit, Batch, Undo, Redo, Revert, Forget, History, Diff, Log, Preview'}
+use Rattle.rec_tools.specs.declared.request.Look.{Look}
+use Rattle.rec_tools.specs.declared.request.Look.TheVariants.{Show, Info, Check, History, Diff, Log}
+use Rattle.rec_tools.specs.declared.request.Change.{Change}
+use Rattle.rec_tools.specs.declared.request.Change.TheVariants.{Edit, Batch, Undo, Redo, Revert, Forget}
+use Rattle.rec_tools.specs.declared.request.Request.{Request}
+use Rattle.rec_tools.specs.declared.request.Request.TheVariants.{Look as Looks, Change as Changes, Preview as Previews}
 use Rattle.rec_tools.specs.declared.request.Reply.{Reply}
 use Rattle.rec_tools.specs.declared.request.Reply.TheVariants.{Shown}
 use Rattle.rec_tools.specs.Home.{Contents, Write, written}
 use Rattle.rec_tools.specs.Steps.{Then}
 use Rattle.rec_tools.specs.Asking.{IsFilter, IsListed, IsShape}
 use Rattle.rec_tools.specs.Printouts.{Printout, printed_history, told_of, IsLog, IsShownEdit, IsLogOf, IsWholeLog, IsShow, IsInfoOf, IsShownText, IsReportText, verdict}
-use Rattle.rec_tools.specs.Requests.{Edits, Asked, looking, listing, showing, listing_changes, editing, moving, reverting, forgetting, previewing, asked_of}
+use Rattle.rec_tools.specs.Requests.{Edits, AskedChange, editing, moving, reverting, forgetting, Asked, looking, listing, showing, listing_changes, changing, previewing}
+use Rattle.rec_tools.specs.Requests.{look_of, change_of, asked_of}
 use Rattle.rec_tools.specs.Reverting.{IsRevertOf}
-use Rattle.rec_tools.specs.Outcomes.{Outcome, IsRequestOutcome, IsPrinting, IsMade, IsEditOutcome, IsPutBy, IsMove, IsForgetting, OnTop, LeadsAcross, IsPreviewText, OneOutcome}
+use Rattle.rec_tools.specs.Outcomes.{Outcome, IsChangeOutcome, IsRequestOutcome, IsPrinting, IsMade, IsEditOutcome, IsPutBy, IsMove, IsForgetting, OnTop, LeadsAcross, IsPreviewText, OneOutcome}
 use Rattle.rec_tools.specs.Outcomes.{edit_reply, revert_reply, printing, putting, reply_of}
 use Rattle.rec_text.proofs.lemmas.FaultLemmas.{same_fault, same_value}
 use Rattle.rec_tools.proofs.lemmas.outcomes.OpeningLemmas.{no_clash, same_plan_of}
@@ -149,32 +155,38 @@ HasOneBut-printing step has_one (Err fault) (Err other) is is_too built built_to
 
 -- ---- what is asked for
 
+-- a change has one meaning: its edits are alike
+abbrev pub ChangesOne : AskedChange → Type 0
+ChangesOne (editing IsEdit) = AgreeLike AreEditsAlike IsEdit IsEdit
+ChangesOne _ = Unit {0}
+
 -- what is asked for has one answer: one text of a file, and edits that are alike
 abbrev pub MeansOne : Asked → Type 0
 MeansOne (looking IsText) = (file : List ℕ) → HasOneBut (IsText file)
-MeansOne listing = Unit {0}
-MeansOne (editing IsEdit) = AgreeLike AreEditsAlike IsEdit IsEdit
-MeansOne (moving direction through) = Unit {0}
-MeansOne (reverting number force) = Unit {0}
-MeansOne (showing number style) = Unit {0}
-MeansOne (listing_changes style) = Unit {0}
-MeansOne (forgetting n dropping) = Unit {0}
-MeansOne (previewing style asked) = MeansOne asked
+MeansOne (changing change) = ChangesOne change
+MeansOne (previewing style change) = ChangesOne change
+MeansOne _ = Unit {0}
+
+one_look : (look : Look) → MeansOne (look_of look)
+one_look (Show pick form collapse) = λ file. HasOneBut-shown _ (HasOneBut-show file pick form collapse)
+one_look (Info record_type form) = λ file. HasOneBut-shown _ (HasOneBut-info_of file record_type form)
+one_look Check = λ file. HasOneBut-reported _ (HasOneBut-check file)
+one_look History = tt
+one_look (Diff number style) = tt
+one_look (Log style) = tt
+
+pub one_change : (change : Change) → ChangesOne (change_of change)
+one_change (Edit edit force) = agree_on_one edit force
+one_change (Batch text force) = agree_on_batch text force
+one_change (Undo through) = tt
+one_change (Redo through) = tt
+one_change (Revert number force) = tt
+one_change (Forget n dropped) = tt
 
 pub one_meaning : (request : Request) → MeansOne (asked_of request)
-one_meaning (Show pick form collapse) = λ file. HasOneBut-shown _ (HasOneBut-show file pick form collapse)
-one_meaning (Info record_type form) = λ file. HasOneBut-shown _ (HasOneBut-info_of file record_type form)
-one_meaning Check = λ file. HasOneBut-reported _ (HasOneBut-check file)
-one_meaning (Edit edit force) = agree_on_one edit force
-one_meaning (Batch text force) = agree_on_batch text force
-one_meaning (Undo through) = tt
-one_meaning (Redo through) = tt
-one_meaning (Revert number force) = tt
-one_meaning (Forget n dropped) = tt
-one_meaning History = tt
-one_meaning (Diff number style) = tt
-one_meaning (Log style) = tt
-one_meaning (Preview' shape request style) = one_meaning request
+one_meaning (Looks look) = one_look look
+one_meaning (Changes change) = one_change change
+one_meaning (Previews change style) = one_change change
 
 -- ---- an edit
 
@@ -320,6 +332,20 @@ module _ (c : Contents) where
       HasOneBut-Then (MakesOf o) (last o) (has_one o opens)
       (λ told _. HasOneBut-of (last o told) (HasOne-edit_outcome o c opens told.0 told.1 (reply_for o told.0 told.1)))))
 
+  -- a change comes to one outcome
+  pub one_change_outcome : (change : AskedChange) → ChangesOne change → HasOneBut (IsChangeOutcome c change)
+  one_change_outcome (editing IsEdit) means one other is is_too built built_too =
+      HasOneBut-put (λ _. IsMade IsEdit c.file) (λ o. edit_reply o.next o.dropped) (λ o opens. one_made IsEdit means c.file) one other is is_too built built_too
+  one_change_outcome (reverting number force) means one other is is_too built built_too =
+      HasOneBut-put (λ o. IsRevertOf number force o c.file) (λ o. revert_reply number o.next) (λ o opens. one_revert_of number force o c.file c.journal opens)
+      one other is is_too built built_too
+  one_change_outcome (moving direction through) means one other is is_too built built_too =
+      HasOne-Then (IsOpening c.file c.journal) (λ o. IsMove direction through o c) (one_opening c.file c.journal) (λ o _. HasOne-move direction through o c)
+      one other is is_too
+  one_change_outcome (forgetting n dropping) means one other is is_too built built_too =
+      HasOne-Then (IsOpening c.file c.journal) (λ o. IsForgetting n dropping o c) (one_opening c.file c.journal) (λ o _. HasOne-forgetting n dropping o c)
+      one other is is_too
+
   -- what is asked for comes to one outcome
   pub one_outcome_of : (asked : Asked) → MeansOne asked → HasOneBut (IsRequestOutcome c asked)
   one_outcome_of (looking IsText) means one other is is_too built built_too =
@@ -331,27 +357,18 @@ module _ (c : Contents) where
       HasOneBut-printing _ (HasOneBut-shown _ (HasOneBut-of _ (HasOne-shown_edit number style c.file c.journal))) one other is is_too built built_too
   one_outcome_of (listing_changes style) means one other is is_too built built_too =
       HasOneBut-printing _ (HasOneBut-shown _ (HasOneBut-of _ (HasOne-whole_log style c.file c.journal))) one other is is_too built built_too
-  one_outcome_of (previewing style asked) means (Ok one) (Ok other) (would, is, preview) (also, is_too, preview_too) built built_too =
-      let same = same_value would also (one_outcome_of asked means (Ok would) (Ok also) is is_too (no_both would BadPattern) (no_both also BadPattern)) in
+  one_outcome_of (changing change) means one other is is_too built built_too = one_change_outcome change means one other is is_too built built_too
+  one_outcome_of (previewing style change) means (Ok one) (Ok other) (would, is, preview) (also, is_too, preview_too) built built_too =
+      let same = same_value would also (one_change_outcome change means (Ok would) (Ok also) is is_too (no_both would BadPattern) (no_both also BadPattern)) in
       ap Ok (same_outcome one other
       (one_preview_text style c (written c also.writes) one.text other.text (subst (λ (w : Outcome). IsPreviewText style c (written c w.writes) one.text) same preview.text) preview_too.text)
       (preview.writes ∙ sym preview_too.writes) (preview.reply ∙ ap (λ (w : Outcome). w.reply) same ∙ sym preview_too.reply))
-  one_outcome_of (previewing style asked) means (Ok one) (Err fault) (would, is, preview) is_too built built_too =
-      absurd (no_both would fault (one_outcome_of asked means (Ok would) (Err fault) is is_too (no_both would BadPattern) built_too))
-  one_outcome_of (previewing style asked) means (Err fault) (Ok other) is (would, is_too, preview) built built_too =
-      absurd (no_both would fault (one_outcome_of asked means (Ok would) (Err fault) is_too is (no_both would BadPattern) built))
-  one_outcome_of (previewing style asked) means (Err fault) (Err other) is is_too built built_too = one_outcome_of asked means (Err fault) (Err other) is is_too built built_too
-  one_outcome_of (editing IsEdit) means one other is is_too built built_too =
-      HasOneBut-put (λ _. IsMade IsEdit c.file) (λ o. edit_reply o.next o.dropped) (λ o opens. one_made IsEdit means c.file) one other is is_too built built_too
-  one_outcome_of (reverting number force) means one other is is_too built built_too =
-      HasOneBut-put (λ o. IsRevertOf number force o c.file) (λ o. revert_reply number o.next) (λ o opens. one_revert_of number force o c.file c.journal opens)
-      one other is is_too built built_too
-  one_outcome_of (moving direction through) means one other is is_too built built_too =
-      HasOne-Then (IsOpening c.file c.journal) (λ o. IsMove direction through o c) (one_opening c.file c.journal) (λ o _. HasOne-move direction through o c)
-      one other is is_too
-  one_outcome_of (forgetting n dropping) means one other is is_too built built_too =
-      HasOne-Then (IsOpening c.file c.journal) (λ o. IsForgetting n dropping o c) (one_opening c.file c.journal) (λ o _. HasOne-forgetting n dropping o c)
-      one other is is_too
+  one_outcome_of (previewing style change) means (Ok one) (Err fault) (would, is, preview) is_too built built_too =
+      absurd (no_both would fault (one_change_outcome change means (Ok would) (Err fault) is is_too (no_both would BadPattern) built_too))
+  one_outcome_of (previewing style change) means (Err fault) (Ok other) is (would, is_too, preview) built built_too =
+      absurd (no_both would fault (one_change_outcome change means (Ok would) (Err fault) is_too is (no_both would BadPattern) built))
+  one_outcome_of (previewing style change) means (Err fault) (Err other) is is_too built built_too =
+      one_change_outcome change means (Err fault) (Err other) is is_too built built_too
 
 pub one_outcome : OneOutcome
 one_outcome c request one other is is_too built built_too = one_outcome_of c (asked_of request) (one_meaning request) one other is is_too built built_too

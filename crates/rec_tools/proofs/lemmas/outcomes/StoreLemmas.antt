@@ -10,7 +10,12 @@ use Rattle.rec_diff.specs.declared.style.DiffStyle.{DiffStyle}
 use Rattle.rec_diff.specs.Diffs.{IsDiff}
 use Rattle.rec_tools.specs.declared.request.Reply.{Reply}
 use Rattle.rec_tools.specs.declared.request.Reply.TheVariants.{Shown}
-use Rattle.rec_tools.specs.declared.request.Request.{Request, Show, Info, Check, Edit, Batch, Undo, Redo, Revert, Forget, History, Diff, Log, Preview'}
+use Rattle.rec_tools.specs.declared.request.Look.{Look}
+use Rattle.rec_tools.specs.declared.request.Look.TheVariants.{Show, Info, Check, History, Diff, Log}
+use Rattle.rec_tools.specs.declared.request.Change.{Change}
+use Rattle.rec_tools.specs.declared.request.Change.TheVariants.{Edit, Batch, Undo, Redo, Revert, Forget}
+use Rattle.rec_tools.specs.declared.request.Request.{Request}
+use Rattle.rec_tools.specs.declared.request.Request.TheVariants.{Look as Looks, Change as Changes, Preview as Previews}
 use Rattle.rec_tools.specs.Home.{Contents}
 use Rattle.rec_tools.specs.Steps.{Then}
 use Rattle.rec_journal.specs.declared.patch.Direction.{Direction}
@@ -19,9 +24,9 @@ use Rattle.rec_journal.specs.Plans.{nothing_there}
 use Rattle.rec_check.specs.DescribedTexts.{IsDescribedText}
 use Rattle.rec_tools.specs.Printouts.{printed_history, IsShownEdit, IsLogOf, IsWholeLog}
 use Rattle.rec_select.specs.Info.{IsInfo}
-use Rattle.rec_tools.specs.Requests.{Edits, IsOneEdit, IsBatch, editing, moving, reverting, forgetting, asked_of}
+use Rattle.rec_tools.specs.Requests.{Edits, IsOneEdit, IsBatch, editing, moving, reverting, forgetting, look_of, change_of, asked_of}
 use Rattle.rec_tools.specs.Reverting.{IsRevertOf}
-use Rattle.rec_tools.specs.Outcomes.{Outcome, IsMade, IsEditOutcome, IsPutBy, edit_reply, revert_reply, IsMove, IsForgetting, IsRequestOutcome, printing}
+use Rattle.rec_tools.specs.Outcomes.{Outcome, IsMade, IsEditOutcome, IsPutBy, edit_reply, revert_reply, IsMove, IsForgetting, IsChangeOutcome, IsRequestOutcome, printing}
 use Rattle.rec_text.proofs.lemmas.FaultLemmas.{ok_is_no_err}
 use Rattle.rec_tools.proofs.lemmas.printing.PutsLemmas.{no_store_then, no_store_text}
 use Rattle.rec_tools.proofs.lemmas.printing.ShowLemmas.{no_store_show}
@@ -44,10 +49,10 @@ never_puts c MakesOf reply_for never =
     no_store_then (IsOpening c.file c.journal) next (λ h. h) (λ o.
     no_store_then (MakesOf o) (last o) (never o) (λ told. no_store_edit o c told.0 told.1 (reply_for o told.0 told.1))))
 
-never_edits : (c : Contents) (IsEdit : Result Edits Fault → Type 0) → (IsEdit (Err StoreFailed) → ⊥) → IsRequestOutcome c (editing IsEdit) (Err StoreFailed) → ⊥
+never_edits : (c : Contents) (IsEdit : Result Edits Fault → Type 0) → (IsEdit (Err StoreFailed) → ⊥) → IsChangeOutcome c (editing IsEdit) (Err StoreFailed) → ⊥
 never_edits c IsEdit never = never_puts c (λ _. IsMade IsEdit c.file) (λ o. edit_reply o.next o.dropped) (λ o. no_store_made IsEdit never c.file)
 
-never_reverts : (c : Contents) (number : ℕ) (force : Bool) → IsRequestOutcome c (reverting number force) (Err StoreFailed) → ⊥
+never_reverts : (c : Contents) (number : ℕ) (force : Bool) → IsChangeOutcome c (reverting number force) (Err StoreFailed) → ⊥
 never_reverts c number force =
     never_puts c (λ o. IsRevertOf number force o c.file) (λ o. revert_reply number o.next) (λ o. no_store_revert number force o c.file)
 
@@ -62,7 +67,7 @@ no_store_move direction through o c (inl missing) = let e = missing.0 in cc
 no_store_move direction through o c (inr (here, inl drifted)) = let e = drifted.0 in cc
 no_store_move direction through o c (inr (here, inr none)) = no_store_there direction none.0
 
-never_moves : (direction : Direction) (through : Option ℕ) (c : Contents) → IsRequestOutcome c (moving direction through) (Err StoreFailed) → ⊥
+never_moves : (direction : Direction) (through : Option ℕ) (c : Contents) → IsChangeOutcome c (moving direction through) (Err StoreFailed) → ⊥
 never_moves direction through c =
     no_store_then (IsOpening c.file c.journal) (λ o. IsMove direction through o c) (λ h. h) (λ o. no_store_move direction through o c)
 
@@ -71,7 +76,7 @@ never_moves direction through c =
 no_store_forgetting : (n : ℕ) (dropping : Bool) (o : Opened) (c : Contents) → IsForgetting n dropping o c (Err StoreFailed) → ⊥
 no_store_forgetting n dropping o c h = let e = h.0 in cc
 
-never_forgets : (n : ℕ) (dropping : Bool) (c : Contents) → IsRequestOutcome c (forgetting n dropping) (Err StoreFailed) → ⊥
+never_forgets : (n : ℕ) (dropping : Bool) (c : Contents) → IsChangeOutcome c (forgetting n dropping) (Err StoreFailed) → ⊥
 never_forgets n dropping c =
     no_store_then (IsOpening c.file c.journal) (λ o. IsForgetting n dropping o c) (λ h. h) (λ o. no_store_forgetting n dropping o c)
 
@@ -96,20 +101,26 @@ no_store_log style file journal = no_store_then (IsOpening file journal) (IsLogO
 
 -- ---- requests
 
-pub never_store : (request : Request) (c : Contents) → IsRequestOutcome c (asked_of request) (Err StoreFailed) → ⊥
-never_store (Show pick form collapse) c is = no_store_show c.file pick form collapse is
-never_store (Info record_type form) c is =
+no_store_look : (look : Look) (c : Contents) → IsRequestOutcome c (look_of look) (Err StoreFailed) → ⊥
+no_store_look (Show pick form collapse) c is = no_store_show c.file pick form collapse is
+no_store_look (Info record_type form) c is =
     no_store_then (IsDescribedText c.file) (λ text. IsInfo text.pieces text.schema.sets record_type form) (no_store_text c.file) (λ text. no_store_info text record_type form) is
-never_store Check c is = no_store_report c.file is
-never_store (Edit edit force) c is = never_edits c (IsOneEdit edit force) (no_store_one edit force) is
-never_store (Batch text force) c is = never_edits c (IsBatch text force) (no_store_listed text force) is
-never_store (Undo through) c is = never_moves Backward through c is
-never_store (Redo through) c is = never_moves Forward through c is
-never_store (Revert number force) c is = never_reverts c number force is
-never_store (Forget n dropped) c is = never_forgets n dropped c is
-never_store (Diff number style) c is = no_store_shown number style c.file c.journal is
-never_store (Log style) c is = no_store_log style c.file c.journal is
-never_store (Preview' shape request style) c is = never_store request c is
-never_store History c is =
+no_store_look Check c is = no_store_report c.file is
+no_store_look History c is =
     no_store_then (IsOpening c.file c.journal) (λ o given. given ≡ Ok (printing (printed_history o) Shown)) (λ h. h)
     (λ o. ok_is_no_err (printing (printed_history o) Shown) StoreFailed ⊥) is
+no_store_look (Diff number style) c is = no_store_shown number style c.file c.journal is
+no_store_look (Log style) c is = no_store_log style c.file c.journal is
+
+pub no_store_change : (change : Change) (c : Contents) → IsChangeOutcome c (change_of change) (Err StoreFailed) → ⊥
+no_store_change (Edit edit force) c is = never_edits c (IsOneEdit edit force) (no_store_one edit force) is
+no_store_change (Batch text force) c is = never_edits c (IsBatch text force) (no_store_listed text force) is
+no_store_change (Undo through) c is = never_moves Backward through c is
+no_store_change (Redo through) c is = never_moves Forward through c is
+no_store_change (Revert number force) c is = never_reverts c number force is
+no_store_change (Forget n dropped) c is = never_forgets n dropped c is
+
+pub never_store : (request : Request) (c : Contents) → IsRequestOutcome c (asked_of request) (Err StoreFailed) → ⊥
+never_store (Looks look) c is = no_store_look look c is
+never_store (Changes change) c is = no_store_change change c is
+never_store (Previews change style) c is = no_store_change change c is

@@ -16,13 +16,12 @@ use Rattle.rec_journal.proofs.lemmas.plans.PlanLemmas.{one_move_plan}
 use Rattle.rec_edit.specs.declared.answer.Edited.{Edited}
 use Rattle.rec_tools.specs.declared.request.Reply.{Reply}
 use Rattle.rec_tools.specs.Home.{Contents, written}
-use Rattle.rec_tools.specs.Requests.{Asked, looking, listing, showing, listing_changes, editing, moving, reverting, forgetting, previewing, asked_of}
+use Rattle.rec_tools.specs.Requests.{AskedChange, editing, moving, reverting, forgetting, change_of}
 use Rattle.rec_tools.specs.Reverting.{IsRevertOf}
-use Rattle.rec_tools.specs.Outcomes.{Outcome, IsMade, IsPutBy, edit_reply, revert_reply, IsRequestOutcome}
+use Rattle.rec_tools.specs.Outcomes.{Outcome, IsMade, IsPutBy, edit_reply, revert_reply, IsChangeOutcome}
 use Rattle.rec_tools.specs.Laws.{MadeAnEdit, BringsBack, UndoBringsBack, RedoBringsBack}
 use Rattle.rec_text.proofs.lemmas.FaultLemmas.{no_both, ok_is_no_err, same_value}
 use Rattle.rec_tools.proofs.lemmas.outcomes.OpeningLemmas.{edit_leads_back}
-use Rattle.rec_tools.proofs.lemmas.runs.RunLemmas.{writes_nothing}
 
 -- by the nearest edit that way the file leads to the text
 module _ (c : Contents) (o : Opened) (opens : Opens c.file c.journal o) (settled : o.drifted ≡ false) (direction : Direction) (e : Revision)
@@ -62,7 +61,7 @@ undo_after_put c MakesOf reply_for done written_some (inr (text, is, inr (o, ope
 
 -- ---- after a move
 
-redo_after_undo : (c : Contents) (through : Option ℕ) (undone : Outcome) → IsRequestOutcome c (moving Backward through) (Ok undone)
+redo_after_undo : (c : Contents) (through : Option ℕ) (undone : Outcome) → IsChangeOutcome c (moving Backward through) (Ok undone)
     → BringsBack (written c undone.writes) (moving Forward None) c.file
 redo_after_undo c through undone (inl (fault, refused, e)) = absurd (no_both undone fault e)
 redo_after_undo c through undone (inr (o, opens, (settled, here, m))) =
@@ -70,7 +69,7 @@ redo_after_undo c through undone (inr (o, opens, (settled, here, m))) =
     (brings_back (record { file = m.plan.file; journal = m.plan.journal }) (after_move Backward o c.journal m.moves.nearest m.moves.others) m.safe.next refl
     Forward m.moves.nearest o.future refl c.file m.moves.leads)
 
-undo_after_redo : (c : Contents) (through : Option ℕ) (redone : Outcome) → IsRequestOutcome c (moving Forward through) (Ok redone)
+undo_after_redo : (c : Contents) (through : Option ℕ) (redone : Outcome) → IsChangeOutcome c (moving Forward through) (Ok redone)
     → BringsBack (written c redone.writes) (moving Backward None) c.file
 undo_after_redo c through redone (inl (fault, refused, e)) = absurd (no_both redone fault e)
 undo_after_redo c through redone (inr (o, opens, (settled, here, m))) =
@@ -80,13 +79,8 @@ undo_after_redo c through redone (inr (o, opens, (settled, here, m))) =
 
 -- ---- the laws
 
-undo_after : (c : Contents) (asked : Asked) (done : Outcome) → done.writes ≢ [] → MadeAnEdit done.reply → IsRequestOutcome c asked (Ok done)
+undo_after : (c : Contents) (change : AskedChange) (done : Outcome) → done.writes ≢ [] → MadeAnEdit done.reply → IsChangeOutcome c change (Ok done)
     → BringsBack (written c done.writes) (moving Backward None) c.file
-undo_after c (looking IsText) done written_some made is = absurd (written_some (writes_nothing c (looking IsText) done tt is))
-undo_after c listing done written_some made is = absurd (written_some (writes_nothing c listing done tt is))
-undo_after c (showing number style) done written_some made is = absurd (written_some (writes_nothing c (showing number style) done tt is))
-undo_after c (listing_changes style) done written_some made is = absurd (written_some (writes_nothing c (listing_changes style) done tt is))
-undo_after c (previewing style asked) done written_some made is = absurd (written_some (writes_nothing c (previewing style asked) done tt is))
 undo_after c (editing IsEdit) done written_some made is = undo_after_put c (λ _. IsMade IsEdit c.file) (λ o. edit_reply o.next o.dropped) done written_some is
 undo_after c (reverting number force) done written_some made is =
     undo_after_put c (λ o. IsRevertOf number force o c.file) (λ o. revert_reply number o.next) done written_some is
@@ -98,7 +92,7 @@ undo_after c (forgetting n dropping) done written_some made (inr (o, opens, (set
 undo_after c (forgetting n dropping) done written_some made (inr (o, opens, (settled, inr (more, f)))) = absurd (subst (λ (x : Outcome). MadeAnEdit x.reply) f.is made)
 
 pub undo_brings_back : UndoBringsBack
-undo_brings_back c request done written_some made is = undo_after c (asked_of request) done written_some made is
+undo_brings_back c change done written_some made is = undo_after c (change_of change) done written_some made is
 
 pub redo_brings_back : RedoBringsBack
 redo_brings_back c through undone is = redo_after_undo c through undone is

@@ -16,18 +16,18 @@ use Rattle.rec_tools.specs.declared.request.Reply.{Reply}
 use Rattle.rec_tools.specs.declared.through.Through.{Through}
 use Rattle.rec_tools.specs.Home.{Contents, Call, got, left_by, left_by_all, TellsOf, TellAll, Went, written}
 use Rattle.rec_tools.specs.Printouts.{Printed, WentOut, IsBoth, IsSilence, PutsPrintout}
-use Rattle.rec_tools.specs.Requests.{Asked, moving, previewing, asked_of, IsSilent}
-use Rattle.rec_tools.specs.Outcomes.{Outcome, IsRequestOutcome, outcome_of, reply_in}
+use Rattle.rec_tools.specs.Requests.{AskedChange, moving, Asked, previewing, change_of}
+use Rattle.rec_tools.specs.Outcomes.{Outcome, IsChangeOutcome, IsRequestOutcome, outcome_of, reply_in}
 use Rattle.rec_tools.specs.Attempts.{Answer, StopsReading, AreRead, Does, gots}
-use Rattle.rec_tools.specs.Machine.{State, IsMachineStep, Stands}
+use Rattle.rec_tools.specs.Machine.{State, IsChangeStep, IsMachineStep, Stands}
 use Rattle.rec_tools.specs.Through.{move_through, moved_by, leads_on, LeadThrough, EndsThrough, StepsAgain, IsThrough, answers_of}
 use Rattle.rec_tools.specs.Through.{WouldLeave, PreviewsAgain, PreviewsRead, PreviewsThrough, PreviewSteps}
 use Rattle.rec_tools.specs.proving.Courses.{contents, IsPreviewed, replied}
 use Rattle.rec_tools.specs.proving.Moving.{IsDryMove, GoesDry}
 use Rattle.rec_tools.specs.proving.Silently.{ByCalls}
 use Rattle.rec_tools.proofs.lemmas.calls.CallLemmas.{Follows, contents_follow}
-use Rattle.rec_tools.proofs.lemmas.calls.ExitLemmas.{silence, went_silently, silent-reads_both, both_got, does-both}
-use Rattle.rec_tools.proofs.lemmas.machine.StepLemmas.{outcomes_are_steps}
+use Rattle.rec_tools.proofs.lemmas.calls.ExitLemmas.{silence, went_silently, both_got, does-both}
+use Rattle.rec_tools.proofs.lemmas.machine.StepLemmas.{changes_are_steps, outcomes_are_steps}
 use Rattle.rec_tools.proofs.lemmas.runs.PreviewLemmas.{previewed-outcome}
 use Rattle.rec_tools.proofs.lemmas.runs.RunLemmas.{left-stopped}
 use Rattle.rec_tools.proofs.lemmas.runs.RunAllLemmas.{both, both-is, IsBoth-silence_first, IsBoth-regrouped, went_out-both, are_both}
@@ -37,56 +37,56 @@ use Rattle.rec_tools.proofs.lemmas.runs.ReachedLemmas.{IsDone, all_done, asked_t
 
 -- ---- one preview
 
-module _ {S : Type 0} (told : S → Option (List ℕ)) (failures : S → ℕ) (style : DiffStyle) (asked : Asked) (silent : IsSilent asked) (file journal f j : List ℕ) (out now : S)
+module _ {S : Type 0} (told : S → Option (List ℕ)) (failures : S → ℕ) (style : DiffStyle) (change : AskedChange) (file journal f j : List ℕ) (out now : S)
     (same : f ≡ file) (same_too : j ≡ journal) where
   -- it was answered so, and would leave these
-  previewed_so : (d : Contents) (answer : Answer) → PrintsAndCounts told failures out now (PutsPrintout (IsPreviewed style f j asked)) answer
-      → IfOk answer (λ reply. WouldLeave (contents file journal) asked reply d) → IsDryMove told failures style asked (contents file journal) d out now answer
+  previewed_so : (d : Contents) (answer : Answer) → PrintsAndCounts told failures out now (PutsPrintout (IsPreviewed style f j change)) answer
+      → IfOk answer (λ reply. WouldLeave (contents file journal) change reply d) → IsDryMove told failures style change (contents file journal) d out now answer
   previewed_so d answer wrote leaves =
-      let (p, went_out, done) = does-both told failures (previewing style asked) (λ f j. IsPreviewed style f j asked) (silent-reads_both asked silent) (previewed-outcome style asked)
+      let (p, went_out, done) = does-both told failures (previewing style change) (λ f j. IsPreviewed style f j change) refl (previewed-outcome style change)
       out now file journal f j answer same same_too wrote in
       (p, went_out, omega (arith, wrote.counted, went_out.1, went_out.2), done, leaves)
 
-  pub dry-refused : (d : Contents) (fault : Fault) → PrintsAndCounts told failures out now (PutsPrintout (IsPreviewed style f j asked)) (Err fault)
-      → IsDryMove told failures style asked (contents file journal) d out now (Err fault)
+  pub dry-refused : (d : Contents) (fault : Fault) → PrintsAndCounts told failures out now (PutsPrintout (IsPreviewed style f j change)) (Err fault)
+      → IsDryMove told failures style change (contents file journal) d out now (Err fault)
   dry-refused d fault wrote = previewed_so d (Err fault) wrote tt
 
   pub dry-left : (d : Contents) (decision : Decision) (reply : Reply) → reply ≡ reply_in decision → d ≡ written (contents file journal) (outcome_of decision).writes
-      → IsRequestOutcome (contents f j) asked (Ok (outcome_of decision))
-      → PrintsAndCounts told failures out now (PutsPrintout (IsPreviewed style f j asked)) (Ok (reply_in decision))
-      → IsDryMove told failures style asked (contents file journal) d out now (Ok reply)
+      → IsChangeOutcome (contents f j) change (Ok (outcome_of decision))
+      → PrintsAndCounts told failures out now (PutsPrintout (IsPreviewed style f j change)) (Ok (reply_in decision))
+      → IsDryMove told failures style change (contents file journal) d out now (Ok reply)
   dry-left d decision reply e left is wrote = previewed_so d (Ok reply)
-      (subst (λ r. PrintsAndCounts told failures out now (PutsPrintout (IsPreviewed style f j asked)) (Ok r)) (sym e) wrote)
+      (subst (λ r. PrintsAndCounts told failures out now (PutsPrintout (IsPreviewed style f j change)) (Ok r)) (sym e) wrote)
       (outcome_of decision, on, e, left)
     where
-      on : IsRequestOutcome (contents file journal) asked (Ok (outcome_of decision))
-      on = subst (λ b. IsRequestOutcome (contents file b) asked (Ok (outcome_of decision))) same_too
-          (subst (λ b. IsRequestOutcome (contents b j) asked (Ok (outcome_of decision))) same is)
+      on : IsChangeOutcome (contents file journal) change (Ok (outcome_of decision))
+      on = subst (λ b. IsChangeOutcome (contents file b) change (Ok (outcome_of decision))) same_too
+          (subst (λ b. IsChangeOutcome (contents b j) change (Ok (outcome_of decision))) same is)
 
 -- ---- one preview more
 
-PreviewsAgain-counted : (style : DiffStyle) (asked : Asked) (c : Contents) (answers : List Answer) (p : Printed) (last : Contents) → PreviewsAgain style asked c answers p last
+PreviewsAgain-counted : (style : DiffStyle) (change : AskedChange) (c : Contents) (answers : List Answer) (p : Printed) (last : Contents) → PreviewsAgain style change c answers p last
     → p.before ≤ p.after
-PreviewsAgain-counted style asked c [] p last done = omega (arith, done.0.1)
-PreviewsAgain-counted style asked c (answer ∷ answers) p last (d, first, rest, parts, does, leaves, done) =
-    let le = PreviewsAgain-counted style asked d answers rest last done in
+PreviewsAgain-counted style change c [] p last done = omega (arith, done.0.1)
+PreviewsAgain-counted style change c (answer ∷ answers) p last (d, first, rest, parts, does, leaves, done) =
+    let le = PreviewsAgain-counted style change d answers rest last done in
     omega (arith, le, parts.1, parts.2, parts.3, parts.4)
 
-PreviewsAgain-more : (style : DiffStyle) (asked : Asked) (c mid last : Contents) (answers : List Answer) (answer : Answer) (p so_far next : Printed)
-    → IsBoth p so_far next → next.before ≤ next.after → PreviewsAgain style asked c answers so_far mid
-    → Does mid (previewing style asked) answer (gots mid (TheFile ∷ TheJournal ∷ [])) next → IfOk answer (λ reply. WouldLeave mid asked reply last)
-    → PreviewsAgain style asked c (answers ++ answer ∷ []) p last
-PreviewsAgain-more style asked c mid last [] answer p so_far next parts le (nothing, here) does leaves = (
+PreviewsAgain-more : (style : DiffStyle) (change : AskedChange) (c mid last : Contents) (answers : List Answer) (answer : Answer) (p so_far next : Printed)
+    → IsBoth p so_far next → next.before ≤ next.after → PreviewsAgain style change c answers so_far mid
+    → Does mid (previewing style change) answer (gots mid (TheFile ∷ TheJournal ∷ [])) next → IfOk answer (λ reply. WouldLeave mid change reply last)
+    → PreviewsAgain style change c (answers ++ answer ∷ []) p last
+PreviewsAgain-more style change c mid last [] answer p so_far next parts le (nothing, here) does leaves = (
   last,
   next,
   silence next.after,
   IsBoth-silence_first p so_far next parts nothing le,
-  subst (λ x. Does x (previewing style asked) answer (gots x (TheFile ∷ TheJournal ∷ [])) next) here does,
-  subst (λ x. IfOk answer (λ reply. WouldLeave x asked reply last)) here leaves,
+  subst (λ x. Does x (previewing style change) answer (gots x (TheFile ∷ TheJournal ∷ [])) next) here does,
+  subst (λ x. IfOk answer (λ reply. WouldLeave x change reply last)) here leaves,
   ((refl, refl), refl),
 )
-PreviewsAgain-more style asked c mid last (a ∷ answers) answer p so_far next parts le (d, first, rest, first_parts, does_first, leaves_first, done) does leaves =
-    let counted : rest.before ≤ rest.after = PreviewsAgain-counted style asked d answers rest mid done in
+PreviewsAgain-more style change c mid last (a ∷ answers) answer p so_far next parts le (d, first, rest, first_parts, does_first, leaves_first, done) does leaves =
+    let counted : rest.before ≤ rest.after = PreviewsAgain-counted style change d answers rest mid done in
     let meet : next.before ≡ rest.after = parts.2 ∙ sym first_parts.3 in (
       d,
       first,
@@ -94,14 +94,14 @@ PreviewsAgain-more style asked c mid last (a ∷ answers) answer p so_far next p
       IsBoth-regrouped p so_far next first rest parts first_parts,
       does_first,
       leaves_first,
-      PreviewsAgain-more style asked d mid last answers answer (both rest next) rest next (both-is rest next counted meet) le done does leaves,
+      PreviewsAgain-more style change d mid last answers answer (both rest next) rest next (both-is rest next counted meet) le done does leaves,
     )
 
 -- ---- on a sink
 
 module _ {S : Type 0} (told : S → Option (List ℕ)) (failures : S → ℕ) (style : DiffStyle) (direction : Direction) (number : ℕ) where
-  abbrev the_move : Asked
-  the_move = asked_of (move_through direction number)
+  abbrev the_move : AskedChange
+  the_move = change_of (move_through direction number)
 
   -- moves were previewed, and each led on
   pub record DrySoFar (c mid : Contents) (out now : S) (first last : Option ℕ) : Type 0 where
@@ -170,20 +170,20 @@ previewed_whole c asked reply calls p (inr (inr (inr (inr done)))) =
     ]
 
 module _ (style : DiffStyle) (direction : Direction) (number : ℕ) where
-  abbrev moves : Asked
+  abbrev moves : AskedChange
   moves = moving direction (Some number)
 
   -- the preview of a move that isn't refused, and the move
   one_step : (c d : Contents) (s : State) (reply : Reply) (calls : List Call) (p : Printed) → Stands c s → Does c (previewing style moves) (Ok reply) calls p → WouldLeave c moves reply d
-      → (mid : State) × IsMachineStep s (previewing style moves) (Ok reply) p.text s × IsMachineStep s moves (Ok reply) [] mid × Stands d mid
+      → (mid : State) × IsMachineStep s (previewing style moves) (Ok reply) p.text s × IsChangeStep s moves (Ok reply) mid × Stands d mid
   one_step c d s reply calls p stands does (would, is, e, left) =
       let (o, outcome, same, printed) = previewed_whole c (previewing style moves) reply calls p does in
-      let (t, (own, next, step, diff, stays), stood) = outcomes_are_steps c s (previewing style moves) (Ok o) stands outcome in
-      let (mid, moved, stands_then) = outcomes_are_steps c s moves (Ok would) stands is in (
+      let (t, (next, step, diff, stays), stood) = outcomes_are_steps c s (previewing style moves) (Ok o) stands outcome in
+      let (mid, moved, stands_then) = changes_are_steps c s moves (Ok would) stands is in (
         mid,
         subst (λ a. IsMachineStep s (previewing style moves) a p.text s) (sym same)
-            (subst (λ text. IsMachineStep s (previewing style moves) (Ok o.reply) text s) (sym printed) (own, next, step, diff, refl)),
-        subst (λ r. IsMachineStep s moves (Ok r) [] mid) (sym e) (moved.0, refl),
+            (subst (λ text. IsMachineStep s (previewing style moves) (Ok o.reply) text s) (sym printed) (next, step, diff, refl)),
+        subst (λ r. IsChangeStep s moves (Ok r) mid) (sym e) moved.0,
         subst (λ x. Stands x mid) (sym left) stands_then,
       )
 
@@ -203,7 +203,7 @@ module _ (style : DiffStyle) (direction : Direction) (number : ℕ) where
           rest.text,
           parts.0,
           subst (λ a. IsMachineStep s (previewing style moves) a first.text s) (sym is.1) shown,
-          subst (λ a. IsMachineStep s moves a [] mid) (sym is.1) moved,
+          subst (λ a. IsChangeStep s moves a mid) (sym is.1) moved,
           others,
         ),
       )
@@ -270,7 +270,7 @@ module _ {H S : Type 0} (goes : H → Call → H → Type 0) (told : S → Optio
     module _ (out now : S) (answers : List Answer) (p : Printed) (went_out : WentOut told failures out now p) (lead : LeadThrough direction number None answers)
         (are : AllByRecursion IsDone answers) (calls : List Call) where
       previewed_told : (known known_new : Option Contents) (read : Result (List ℕ × List ℕ) Fault) → AreRead read calls → Follows known calls known_new
-          → PreviewsRead style (asked_of (move_through direction number)) read answers p → Previewed out now known
+          → PreviewsRead style (change_of (move_through direction number)) read answers p → Previewed out now known
       previewed_told None known_new read reads follow previews = tt
       previewed_told (Some c) known_new (Err fault) reads follow (refused, silent) =
           let done : IsDone (Err fault) = (subst (AllByRecursion IsDone) refused are).0 in
@@ -279,7 +279,7 @@ module _ {H S : Type 0} (goes : H → Call → H → Type 0) (told : S → Optio
           let same : contents file journal ≡ c = both_got file journal [] c (subst (TellAll c) reads follow.0) in
           let here : PreviewsAgain style (moving direction (Some number)) c answers p last =
           subst (λ a. PreviewsAgain style a c answers p last) (asked_through direction number)
-          (subst (λ d. PreviewsAgain style (asked_of (move_through direction number)) d answers p last) same previews) in
+          (subst (λ d. PreviewsAgain style (change_of (move_through direction number)) d answers p last) same previews) in
           λ s t stands through. (p, went_out, all_there style direction number c last s t answers p stands through lead are here)
 
     pub dry-previewed : (out now : S) (ended : Through) → RanDry goes told failures style direction number old new out now ended

@@ -184,18 +184,18 @@ module _ (direction : Direction) (entry : Entry) (farther : List Entry) where
       → (answers ≡ answers_of direction (nearer ++ entry ∷ [])) × (t ≡ state_through direction s nearer entry farther)
   go_there nearer last s t [] there ahead steps lead = absurd lead
   go_there [] last s t (answer ∷ []) there ahead (mid, step, e) lead =
-      let moved = moves direction entry.number s mid entry farther answer there (has_it entry.number [] farther entry refl) step.0 in
+      let moved = moves direction entry.number s mid entry farther answer there (has_it entry.number [] farther entry refl) step in
       (ap (λ (a : Answer). a ∷ []) moved.0, e ∙ moved.1 ∙ none_nearer direction s entry farther)
   go_there [] last s t (answer ∷ (next ∷ answers)) there ahead (mid, step, steps) lead =
-      let moved = moves direction entry.number s mid entry farther answer there (has_it entry.number [] farther entry refl) step.0 in
+      let moved = moves direction entry.number s mid entry farther answer there (has_it entry.number [] farther entry refl) step in
       let by : moved_by answer ≡ Some entry.number = ap moved_by moved.0 ∙ moved_by-reply direction entry.number entry.tool in
       absurd (ends direction last entry.number (subst (λ m. leads_on direction entry.number last m ≡ true) by lead.0))
   go_there (x ∷ nearer) last s t (answer ∷ []) there ahead (mid, step, e) lead =
-      let moved = moves direction entry.number s mid x (nearer ++ entry ∷ farther) answer there (has_it entry.number (x ∷ nearer) farther entry refl) step.0 in
+      let moved = moves direction entry.number s mid x (nearer ++ entry ∷ farther) answer there (has_it entry.number (x ∷ nearer) farther entry refl) step in
       let by : moved_by answer ≡ Some x.number = ap moved_by moved.0 ∙ moved_by-reply direction x.number x.tool in
       absurd (false≢true (sym lead ∙ ap (leads_on direction entry.number last) by ∙ leads direction last x nearer farther entry ahead))
   go_there (x ∷ nearer) last s t (answer ∷ (next ∷ answers)) there ahead (mid, step, steps) lead =
-      let moved = moves direction entry.number s mid x (nearer ++ entry ∷ farther) answer there (has_it entry.number (x ∷ nearer) farther entry refl) step.0 in
+      let moved = moves direction entry.number s mid x (nearer ++ entry ∷ farther) answer there (has_it entry.number (x ∷ nearer) farther entry refl) step in
       let by : moved_by answer ≡ Some x.number = ap moved_by moved.0 ∙ moved_by-reply direction x.number x.tool in
       let rest = go_there nearer (Some x.number) mid t (next ∷ answers)
       (ap (entries_on direction) moved.1 ∙ entries_after direction s x (nearer ++ entry ∷ farther)) (following direction last x.number _ ahead) steps
@@ -215,10 +215,10 @@ go_nowhere : (direction : Direction) (number : ℕ) (s t : State) (answers : Lis
     → StepsAgain s (moving direction (Some number)) answers t → LeadThrough direction number None answers → (t ≡ s) × ((fault : Fault) × (answers ≡ Err fault ∷ []))
 go_nowhere direction number s t [] none steps lead = absurd lead
 go_nowhere direction number s t (answer ∷ []) none (mid, step, e) lead =
-    let refused = refuses direction number s mid (entries_on direction s) answer none step.0 in
+    let refused = refuses direction number s mid (entries_on direction s) answer none step in
     (e ∙ refused.0, (refused.1.0, ap (λ (a : Answer). a ∷ []) refused.1.1))
 go_nowhere direction number s t (answer ∷ (next ∷ answers)) none (mid, step, steps) lead =
-    let refused = refuses direction number s mid (entries_on direction s) answer none step.0 in
+    let refused = refuses direction number s mid (entries_on direction s) answer none step in
     absurd (false≢true (subst (λ a. leads_on direction number None (moved_by a) ≡ true) refused.1.1 lead.0))
 
 pub moves_lead_there : MovesLeadThere

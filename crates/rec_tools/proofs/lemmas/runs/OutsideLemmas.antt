@@ -19,11 +19,15 @@ use Rattle.rec_journal.proofs.lemmas.histories.Openings.{one_opening}
 use Rattle.rec_edit.specs.declared.answer.Edited.{Edited}
 use Rattle.rec_tools.specs.declared.request.Reply.{Reply}
 use Rattle.rec_tools.specs.declared.request.Reply.TheVariants.{Shown}
-use Rattle.rec_tools.specs.declared.request.Request.{Request, Show, Info, Check, Edit, Batch, Undo, Redo, Forget, Revert, History, Diff, Log, Preview'}
+use Rattle.rec_tools.specs.declared.request.Look.{Look}
+use Rattle.rec_tools.specs.declared.request.Look.TheVariants.{Show, Info, Check, History, Diff, Log}
+use Rattle.rec_tools.specs.declared.request.Request.{Request}
+use Rattle.rec_tools.specs.declared.request.Request.TheVariants.{Look as Looks, Change as Changes, Preview as Previews}
 use Rattle.rec_tools.specs.Home.{Contents, written}
 use Rattle.rec_tools.specs.Printouts.{history_text, verdict, IsShownText, IsShow, IsInfoOf, IsShownEdit, IsWholeLog}
-use Rattle.rec_tools.specs.Requests.{Edits, IsOneEdit, IsBatch, Asked, looking, listing, showing, listing_changes, editing, moving, reverting, forgetting, previewing, asked_of}
-use Rattle.rec_tools.specs.Outcomes.{Outcome, IsRequestOutcome, IsPlanned, IsPrinting, printing}
+use Rattle.rec_tools.specs.Requests.{Edits, AskedChange, editing, moving, reverting, forgetting, Asked, looking, listing, showing, listing_changes, changing, previewing}
+use Rattle.rec_tools.specs.Requests.{look_of, change_of, asked_of}
+use Rattle.rec_tools.specs.Outcomes.{Outcome, IsChangeOutcome, IsRequestOutcome, IsPlanned, IsPrinting, printing}
 use Rattle.rec_tools.specs.Machine.{AreEntries, Stands}
 use Rattle.rec_tools.specs.Laws.{MadeAnEdit, IsPreview, outside_state, BeginsAnew, OutsideIsNoticed}
 use Rattle.rec_text.proofs.lemmas.FaultLemmas.{no_both, ok_is_no_err, same_value}
@@ -40,14 +44,14 @@ module _ (c : Contents) (o : Opened) (opens : Opens c.file c.journal o) (drifted
   not_settled : (p : Opened) → Opens c.file c.journal p → p.drifted ≡ false → ⊥
   not_settled p opened settled = false≢true (sym settled ∙ ap (λ (x : Opened). x.drifted) (same_opening p opened) ∙ drifted)
 
-  no_move : (direction : Direction) (through : Option ℕ) (r : Result Outcome Fault) → IsRequestOutcome c (moving direction through) r → r ≡ Err Drifted
+  no_move : (direction : Direction) (through : Option ℕ) (r : Result Outcome Fault) → IsChangeOutcome c (moving direction through) r → r ≡ Err Drifted
   no_move direction through r (inl (fault, refused, e)) = absurd (no_refusal fault refused)
   no_move direction through (Ok outcome) (inr (p, opened, (settled, here, m))) = absurd (not_settled p opened settled)
   no_move direction through (Err fault) (inr (p, opened, inl (is, settled, missing))) = absurd (not_settled p opened settled)
   no_move direction through (Err fault) (inr (p, opened, inr (here, inl (is, why)))) = ap Err is
   no_move direction through (Err fault) (inr (p, opened, inr (here, inr (is, settled, none)))) = absurd (not_settled p opened settled)
 
-  nothing_forgotten : (n : ℕ) (dropping : Bool) (r : Result Outcome Fault) → IsRequestOutcome c (forgetting n dropping) r → r ≡ Err Drifted
+  nothing_forgotten : (n : ℕ) (dropping : Bool) (r : Result Outcome Fault) → IsChangeOutcome c (forgetting n dropping) r → r ≡ Err Drifted
   nothing_forgotten n dropping r (inl (fault, refused, e)) = absurd (no_refusal fault refused)
   nothing_forgotten n dropping (Ok outcome) (inr (p, opened, (settled, forgets))) = absurd (not_settled p opened settled)
   nothing_forgotten n dropping (Err fault) (inr (p, opened, (is, why))) = ap Err is
@@ -80,7 +84,7 @@ module _ (c : Contents) (o : Opened) (opens : Opens c.file c.journal o) (drifted
       }
 
   -- nothing is reverted
-  no_revert : (number : ℕ) (force : Bool) (outcome : Outcome) → IsRequestOutcome c (reverting number force) (Ok outcome) → ⊥
+  no_revert : (number : ℕ) (force : Bool) (outcome : Outcome) → IsChangeOutcome c (reverting number force) (Ok outcome) → ⊥
   no_revert number force outcome (inl refused) = let e = refused.2 in cc
   no_revert number force outcome (inr (text, is, inl refused)) = let e = refused.2 in cc
   no_revert number force outcome (inr (text, is, inr (p, opened, inl refused))) = let e = refused.2 in cc
@@ -93,13 +97,13 @@ module _ (c : Contents) (o : Opened) (opens : Opens c.file c.journal o) (drifted
   begins_anew listing outcome is some = absurd (some (writes_nothing c listing outcome tt is))
   begins_anew (showing number style) outcome is some = absurd (some (writes_nothing c (showing number style) outcome tt is))
   begins_anew (listing_changes style) outcome is some = absurd (some (writes_nothing c (listing_changes style) outcome tt is))
-  begins_anew (previewing style asked) outcome is some = absurd (some (writes_nothing c (previewing style asked) outcome tt is))
-  begins_anew (reverting number force) outcome is some = absurd (no_revert number force outcome is)
-  begins_anew (editing IsEdit) outcome (inl refused) some = let e = refused.2 in cc
-  begins_anew (editing IsEdit) outcome (inr (text, is, inl refused)) some = let e = refused.2 in cc
-  begins_anew (editing IsEdit) outcome (inr (text, is, inr (p, opened, inl refused))) some = let e = refused.2 in cc
-  begins_anew (editing IsEdit) outcome (inr (text, is, inr (p, opened, inr (made, done, inl (same, e))))) some = absurd (some (ap (λ (x : Outcome). x.writes) e))
-  begins_anew (editing IsEdit) outcome (inr (text, is, inr (p, opened, inr ((tool, made), done, inr (differs, (plan, planned, e)))))) some =
+  begins_anew (previewing style change) outcome is some = absurd (some (writes_nothing c (previewing style change) outcome tt is))
+  begins_anew (changing (reverting number force)) outcome is some = absurd (no_revert number force outcome is)
+  begins_anew (changing (editing IsEdit)) outcome (inl refused) some = let e = refused.2 in cc
+  begins_anew (changing (editing IsEdit)) outcome (inr (text, is, inl refused)) some = let e = refused.2 in cc
+  begins_anew (changing (editing IsEdit)) outcome (inr (text, is, inr (p, opened, inl refused))) some = let e = refused.2 in cc
+  begins_anew (changing (editing IsEdit)) outcome (inr (text, is, inr (p, opened, inr (made, done, inl (same, e))))) some = absurd (some (ap (λ (x : Outcome). x.writes) e))
+  begins_anew (changing (editing IsEdit)) outcome (inr (text, is, inr (p, opened, inr ((tool, made), done, inr (differs, (plan, planned, e)))))) some =
       let here : IsPlanned o c tool made plan = subst (λ x. IsPlanned x c tool made plan) (same_opening p opened) planned in
       record {
         tool = tool;
@@ -107,8 +111,8 @@ module _ (c : Contents) (o : Opened) (opens : Opens c.file c.journal o) (drifted
         makes = done;
         stands = subst (λ (x : Outcome). Stands (written c x.writes) (outside_state c o tool made.steps made.text)) (sym e) (begun tool made plan here);
       }
-  begins_anew (moving direction through) outcome is some = absurd (ok_is_no_err outcome Drifted ⊥ (sym (no_move direction through (Ok outcome) is)))
-  begins_anew (forgetting n dropping) outcome is some = absurd (ok_is_no_err outcome Drifted ⊥ (sym (nothing_forgotten n dropping (Ok outcome) is)))
+  begins_anew (changing (moving direction through)) outcome is some = absurd (ok_is_no_err outcome Drifted ⊥ (sym (no_move direction through (Ok outcome) is)))
+  begins_anew (changing (forgetting n dropping)) outcome is some = absurd (ok_is_no_err outcome Drifted ⊥ (sym (nothing_forgotten n dropping (Ok outcome) is)))
 
   -- what is shown, or reported, is no edit that was made
   shown-no_edit : (reply : Reply) → reply ≡ Shown → MadeAnEdit reply → ⊥
@@ -121,7 +125,7 @@ module _ (c : Contents) (o : Opened) (opens : Opens c.file c.journal o) (drifted
   printed-no_edit : (IsText : Result (List ℕ) Fault → Type 0) (outcome : Outcome) → IsPrinting (IsShownText IsText) (Ok outcome) → MadeAnEdit outcome.reply → ⊥
   printed-no_edit IsText outcome (p, is, e) made = shown-no_edit outcome.reply (ap (λ (x : Outcome). x.reply) e ∙ is.1) made
 
-  edited_unwritten : (IsEdit : Result Edits Fault → Type 0) (outcome : Outcome) → IsRequestOutcome c (editing IsEdit) (Ok outcome)
+  edited_unwritten : (IsEdit : Result Edits Fault → Type 0) (outcome : Outcome) → IsChangeOutcome c (editing IsEdit) (Ok outcome)
       → outcome.writes ≡ [] → MadeAnEdit outcome.reply → ⊥
   edited_unwritten IsEdit outcome (inl (fault, refused, e)) none made = no_both outcome fault e
   edited_unwritten IsEdit outcome (inr (text, is, inl (fault, refused, e))) none made = no_both outcome fault e
@@ -130,23 +134,25 @@ module _ (c : Contents) (o : Opened) (opens : Opens c.file c.journal o) (drifted
   edited_unwritten IsEdit outcome (inr (text, is, inr (p, opened, inr ((tool, edited), done, inr (differs, (plan, planned, e)))))) none made =
       let both = sym none ∙ ap (λ (x : Outcome). x.writes) e in cc
 
+  look-no_edit : (look : Look) (outcome : Outcome) → IsRequestOutcome c (look_of look) (Ok outcome) → MadeAnEdit outcome.reply → ⊥
+  look-no_edit (Show pick form collapse) outcome is made = printed-no_edit (IsShow c.file pick form collapse) outcome is made
+  look-no_edit (Info record_type form) outcome is made = printed-no_edit (IsInfoOf c.file record_type form) outcome is made
+  look-no_edit Check outcome (p, (found, are, text, reply), e) made = report-no_edit found outcome.reply (ap (λ (x : Outcome). x.reply) e ∙ reply) made
+  look-no_edit History outcome is made = shown-no_edit outcome.reply (ap (λ (x : Outcome). x.reply) (same_value outcome _ (told_drifted (Ok outcome) is))) made
+  look-no_edit (Diff number style) outcome is made = printed-no_edit (IsShownEdit number style c.file c.journal) outcome is made
+  look-no_edit (Log style) outcome is made = printed-no_edit (IsWholeLog style c.file c.journal) outcome is made
+
+  change-written : (change : AskedChange) (outcome : Outcome) → IsChangeOutcome c change (Ok outcome) → outcome.writes ≡ [] → MadeAnEdit outcome.reply → ⊥
+  change-written (editing IsEdit) outcome is none made = edited_unwritten IsEdit outcome is none made
+  change-written (moving direction through) outcome is none made = ok_is_no_err outcome Drifted ⊥ (sym (no_move direction through (Ok outcome) is))
+  change-written (reverting number force) outcome is none made = no_revert number force outcome is
+  change-written (forgetting n dropping) outcome is none made = ok_is_no_err outcome Drifted ⊥ (sym (nothing_forgotten n dropping (Ok outcome) is))
+
   unwritten : (request : Request) (outcome : Outcome) → IsRequestOutcome c (asked_of request) (Ok outcome) → outcome.writes ≡ [] → MadeAnEdit outcome.reply
       → IsPreview (asked_of request)
-  unwritten (Show pick form collapse) outcome is none made = absurd (printed-no_edit (IsShow c.file pick form collapse) outcome is made)
-  unwritten (Info record_type form) outcome is none made = absurd (printed-no_edit (IsInfoOf c.file record_type form) outcome is made)
-  unwritten Check outcome (p, (found, are, text, reply), e) none made =
-      absurd (report-no_edit found outcome.reply (ap (λ (x : Outcome). x.reply) e ∙ reply) made)
-  unwritten (Edit edit force) outcome is none made = absurd (edited_unwritten (IsOneEdit edit force) outcome is none made)
-  unwritten (Batch text force) outcome is none made = absurd (edited_unwritten (IsBatch text force) outcome is none made)
-  unwritten (Undo through) outcome is none made = absurd (ok_is_no_err outcome Drifted ⊥ (sym (no_move Backward through (Ok outcome) is)))
-  unwritten (Redo through) outcome is none made = absurd (ok_is_no_err outcome Drifted ⊥ (sym (no_move Forward through (Ok outcome) is)))
-  unwritten (Revert number force) outcome is none made = absurd (no_revert number force outcome is)
-  unwritten (Forget n dropped) outcome is none made = absurd (ok_is_no_err outcome Drifted ⊥ (sym (nothing_forgotten n dropped (Ok outcome) is)))
-  unwritten History outcome is none made =
-      absurd (shown-no_edit outcome.reply (ap (λ (x : Outcome). x.reply) (same_value outcome _ (told_drifted (Ok outcome) is))) made)
-  unwritten (Diff number style) outcome is none made = absurd (printed-no_edit (IsShownEdit number style c.file c.journal) outcome is made)
-  unwritten (Log style) outcome is none made = absurd (printed-no_edit (IsWholeLog style c.file c.journal) outcome is made)
-  unwritten (Preview' shape request style) outcome is none made = tt
+  unwritten (Looks look) outcome is none made = absurd (look-no_edit look outcome is made)
+  unwritten (Changes change) outcome is none made = absurd (change-written (change_of change) outcome is none made)
+  unwritten (Previews change style) outcome is none made = tt
 
 pub outside_is_noticed : OutsideIsNoticed
 outside_is_noticed c o opens drifted =

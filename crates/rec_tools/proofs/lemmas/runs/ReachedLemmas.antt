@@ -10,12 +10,13 @@ use Rattle.rec_text.proofs.lemmas.FaultLemmas.{no_both}
 use Rattle.rec_journal.specs.declared.patch.Direction.{Direction}
 use Rattle.rec_journal.specs.declared.patch.Direction.TheVariants.{Forward, Backward}
 use Rattle.rec_tools.specs.declared.request.Reply.{Reply}
+use Rattle.rec_tools.specs.declared.request.Request.TheVariants.{Change as Changes}
 use Rattle.rec_tools.specs.declared.through.Through.{Through}
 use Rattle.rec_tools.specs.Home.{Contents, Call, left_by, left_by_all, TellsOf, TellAll, HasFailed}
 use Rattle.rec_tools.specs.Printouts.{Printed}
-use Rattle.rec_tools.specs.Requests.{Asked, moving, asked_of}
+use Rattle.rec_tools.specs.Requests.{AskedChange, moving, changing, change_of}
 use Rattle.rec_tools.specs.Attempts.{Answer, Does, AttemptsAll}
-use Rattle.rec_tools.specs.Machine.{State, IsMachineStep, IsAnswer, Stands}
+use Rattle.rec_tools.specs.Machine.{State, IsChangeStep, IsAnswer, Stands}
 use Rattle.rec_tools.specs.Through.{move_through, moves_through, moved_by, leads_on, LeadThrough, StepsAgain, IsThrough}
 use Rattle.rec_tools.specs.proving.Moving.{GoesThrough}
 use Rattle.rec_tools.proofs.lemmas.calls.CallLemmas.{Follows, contents_follow, TellAll-prefix, TellAll-rest, left_by_all-append}
@@ -41,7 +42,7 @@ all_done direction number last (a ∷ []) answer done lead = (done_where_moved a
 all_done direction number last (a ∷ (b ∷ answers)) answer done lead =
     (done_where_moved a direction number last lead.0, all_done direction number (moved_by a) (b ∷ answers) answer done lead.1)
 
-pub asked_through : (direction : Direction) (number : ℕ) → asked_of (move_through direction number) ≡ moving direction (Some number)
+pub asked_through : (direction : Direction) (number : ℕ) → change_of (move_through direction number) ≡ moving direction (Some number)
 asked_through Backward number = refl
 asked_through Forward number = refl
 
@@ -49,42 +50,43 @@ asked_through Forward number = refl
 
 -- the answer to a move that isn't refused is the machine's
 step_of_done : (s t : State) (direction : Direction) (number : ℕ) (reply : Reply) (calls : List Call) (p : Printed)
-    → IsAnswer s (moving direction (Some number)) (Ok reply) calls p t → IsMachineStep s (moving direction (Some number)) (Ok reply) [] t
-step_of_done s t direction number reply calls p (inl step) = (step.0, refl)
+    → IsAnswer s (changing (moving direction (Some number))) (Ok reply) calls p t → IsChangeStep s (moving direction (Some number)) (Ok reply) t
+step_of_done s t direction number reply calls p (inl step) = step.0
 step_of_done s t direction number reply calls p (inr (inl (inl short, prefix))) = absurd (no_both reply OutOfMemory short.0)
 step_of_done s t direction number reply calls p (inr (inl (inr (inl stopped), prefix))) = absurd (no_both reply StoreFailed stopped.0)
 step_of_done s t direction number reply calls p (inr (inl (inr (inr failed), prefix))) = absurd (no_both reply StoreFailed failed.0)
 step_of_done s t direction number reply calls p (inr (inr clash)) = absurd (no_both reply DigestClash clash.0)
 
 module _ {H : Type 0} (goes : H → Call → H → Type 0) (direction : Direction) (number : ℕ) where
-  abbrev asked : Asked
-  asked = moving direction (Some number)
+  abbrev change : AskedChange
+  change = moving direction (Some number)
 
   -- what was done without a refusal is a step of the machine
-  steps_by_one : (c : Contents) (s : State) (reply : Reply) (calls : List Call) (p : Printed) → Stands c s → Does c asked (Ok reply) calls p
-      → (t : State) × IsMachineStep s asked (Ok reply) [] t × Stands (left_by_all c calls) t
+  steps_by_one : (c : Contents) (s : State) (reply : Reply) (calls : List Call) (p : Printed) → Stands c s → Does c (changing change) (Ok reply) calls p
+      → (t : State) × IsChangeStep s change (Ok reply) t × Stands (left_by_all c calls) t
   steps_by_one c s reply calls p stands does =
-      let held : HasFailed calls → ⊥ = elim (does-kept c asked calls p (Ok reply) does) [ inl failed ↦ absurd (no_both reply StoreFailed failed) | inr kept ↦ kept.0 ] in
-      let step = does-steps c s asked stands (Ok reply) calls p (no_stops c s asked calls held) does in
+      let held : HasFailed calls → ⊥ = elim (does-kept c (changing change) calls p (Ok reply) does) [ inl failed ↦ absurd (no_both reply StoreFailed failed) | inr kept ↦ kept.0 ] in
+      let step = does-steps c s (changing change) stands (Ok reply) calls p (no_stops c s (changing change) calls held) does in
       (step.0, step_of_done s step.0 direction number reply calls p step.1, step.2)
 
   all_step : (old new : H) (c : Contents) (s : State) (answers : List Answer) (calls : List Call) (p : Printed) → Stands c s → TellAll c calls → AllByRecursion IsDone answers
-      → AttemptsAll goes old new (replicate (length answers) (move_through direction number)) answers calls p
-      → (t : State) × StepsAgain s asked answers t × Stands (left_by_all c calls) t
+      → AttemptsAll goes old new (replicate (length answers) (Changes (move_through direction number))) answers calls p
+      → (t : State) × StepsAgain s change answers t × Stands (left_by_all c calls) t
   all_step old new c s [] calls p stands tells are done = (s, refl, subst (λ made. Stands (left_by_all c made) s) (sym done.1) stands)
   all_step old new c s (answer ∷ answers) calls p stands tells are (mid, now, later, first, rest, whole, both, tried, tried_later) =
       let told : TellAll c (now ++ later) = subst (TellAll c) whole tells in
-      let does : Does c asked (Ok are.0.0) now first =
-      subst (λ a. Does c asked a now first) are.0.1 (subst (λ a. Does c a answer now first) (asked_through direction number) (tried.2 c (TellAll-prefix c now later told))) in
+      let does : Does c (changing change) (Ok are.0.0) now first =
+      subst (λ a. Does c (changing change) a now first) are.0.1
+      (subst (λ a. Does c (changing a) answer now first) (asked_through direction number) (tried.2 c (TellAll-prefix c now later told))) in
       let one = steps_by_one c s are.0.0 now first stands does in
       let others = all_step mid new (left_by_all c now) one.0 answers later rest one.2 (TellAll-rest c now later told) are.1 tried_later in
       let left : left_by_all (left_by_all c now) later ≡ left_by_all c calls = sym (ap (left_by_all c) whole ∙ left_by_all-append c now later) in (
         others.0,
-        (one.0, subst (λ a. IsMachineStep s asked a [] one.0) (sym are.0.1) one.1, others.1),
+        (one.0, subst (λ a. IsChangeStep s change a one.0) (sym are.0.1) one.1, others.1),
         subst (λ d. Stands d others.0) left others.2,
       )
 
--- ---- on a home and a sink
+-- ---- on a home
 
 -- from contents that stand for a state, the home tells contents that stand for the state to which the moves lead
 abbrev pub Reaches : Direction → ℕ → Option Contents → Option Contents → Type 0
@@ -93,7 +95,7 @@ Reaches direction number known known_new =
 
 module _ {H : Type 0} (goes : H → Call → H → Type 0) (direction : Direction) (number : ℕ) (old new : H) (answers : List Answer) (calls : List Call) (p : Printed)
     (are : AllByRecursion IsDone answers) (lead : LeadThrough direction number None answers)
-    (done : AttemptsAll goes old new (replicate (length answers) (move_through direction number)) answers calls p) where
+    (done : AttemptsAll goes old new (replicate (length answers) (Changes (move_through direction number))) answers calls p) where
   reached_told : (known known_new : Option Contents) → Follows known calls known_new → Reaches direction number known known_new
   reached_told None known_new follow = tt
   reached_told (Some c) known_new follow = λ s t stands through.
@@ -110,11 +112,11 @@ last_told answers answer told = split (reverse answers) refl told where
       let same : answer ≡ last = cc in
       (reverse others, sym (reverse-reverse answers) ∙ ap reverse is ∙ reverse-append (last ∷ []) others ∙ ap (λ (a : Answer). reverse others ++ a ∷ []) (sym same))
 
-module _ {H S : Type 0} (goes : H → Call → H → Type 0) (told : S → Option (List ℕ)) (sink_failures : S → ℕ) (contents : H → Option Contents)
+module _ {H : Type 0} (goes : H → Call → H → Type 0) (contents : H → Option Contents)
     (follows : (one other : H) (call : Call) → goes one call other → IfSome (contents one) (λ c. TellsOf c call × (contents other ≡ Some (left_by c call)))) where
-  pub ended-reaches : (direction : Direction) (number : ℕ) (old new : H) (out now : S) (ended : Through) → GoesThrough goes told sink_failures direction number old new out now ended
+  pub ended-reaches : (direction : Direction) (number : ℕ) (old new : H) (ended : Through) → GoesThrough goes direction number old new ended
       → IfOk ended.answer (λ reply. Reaches direction number (contents old) (contents new))
-  ended-reaches direction number old new out now ended (answers, ends, calls, p, went_out, done) = of_answer ended.answer refl where
+  ended-reaches direction number old new ended (answers, ends, calls, p, silent, done) = of_answer ended.answer refl where
     follow : Follows (contents old) calls (contents new)
     follow = contents_follow goes contents follows old new calls (AttemptsAll-went goes old new (moves_through direction number answers) answers calls p done)
 

@@ -9,7 +9,7 @@ use Rattle.rec_journal.specs.History.{IsRegular}
 use Rattle.rec_tools.specs.declared.request.Request.{Request}
 use Rattle.rec_tools.specs.Home.{Contents, Call, left_by, left_by_all, TellsOf, HasFailed, Went, WentOn}
 use Rattle.rec_tools.specs.Printouts.{Printed, WentOut, IsBoth, IsSilence}
-use Rattle.rec_tools.specs.Requests.{asked_of, IsSilent}
+use Rattle.rec_tools.specs.Requests.{asked_of, IsChange}
 use Rattle.rec_tools.specs.Attempts.{Answer, Attempts, AttemptsAll}
 use Rattle.rec_tools.specs.Machine.{State, Stands}
 use Rattle.rec_tools.specs.Guarantee.{RunsAsMachine}
@@ -54,7 +54,7 @@ module _ {H : Type 0} (goes : H → Call → H → Type 0) where
 
   -- ---- one more request
 
-  AttemptsAll-more : (old home new : H) (requests : List Request) (answers : List Answer) (calls : List Call) (request : Request) (answer : Answer) (now : List Call) (p so_far next : Printed)
+  pub AttemptsAll-more : (old home new : H) (requests : List Request) (answers : List Answer) (calls : List Call) (request : Request) (answer : Answer) (now : List Call) (p so_far next : Printed)
       → IsBoth p so_far next → next.before ≤ next.after → AttemptsAll goes old home requests answers calls so_far → Attempts goes home new (asked_of request) answer now next
       → AttemptsAll goes old new (requests ++ request ∷ []) (answers ++ answer ∷ []) (calls ++ now) p
   AttemptsAll-more old home new [] [] calls request answer now p so_far next parts le done tried =
@@ -160,13 +160,10 @@ module _ {H S : Type 0} (goes : H → Call → H → Type 0) (told : S → Optio
       ran_told contents (contents old) old new out out_new requests answers done
       (contents_follow goes contents follows old new done.0 (AttemptsAll-went goes old new requests answers done.0 done.1 done.3))
 
--- ---- a request prints nothing
+-- ---- each request is a change
 
-abbrev pub IsSilentRequest : Request → Type 0
-IsSilentRequest request = IsSilent (asked_of request)
-
-pub silent_at : (requests : List Request) (i : ℕ) (request : Request) → i < length requests → request ≡ get_or requests i request → AllByRecursion IsSilentRequest requests → IsSilentRequest request
-silent_at requests i request lt is all = subst IsSilentRequest (sym is) (All-from_recursion IsSilentRequest requests all i request lt)
+pub change_at : (requests : List Request) (i : ℕ) (request : Request) → i < length requests → request ≡ get_or requests i request → AllByRecursion IsChange requests → IsChange request
+change_at requests i request lt is all = subst IsChange (sym is) (All-from_recursion IsChange requests all i request lt)
 
 -- ---- the requests so far, and all of them
 

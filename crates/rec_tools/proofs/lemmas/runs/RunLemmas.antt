@@ -5,10 +5,13 @@ use Rattle.rec_text.specs.declared.fault.Fault.{Fault}
 use Rattle.rec_text.specs.declared.fault.Fault.TheVariants.{OutOfMemory, StoreFailed}
 use Rattle.rec_text.specs.Sink.{HasRisen}
 use Rattle.rec_tools.specs.declared.home.Which.{Which}
+use Rattle.rec_tools.specs.declared.request.Look.{Look}
+use Rattle.rec_tools.specs.declared.request.Look.TheVariants.{Show, Info, Check, History, Diff, Log}
 use Rattle.rec_tools.specs.declared.request.Request.{Request}
+use Rattle.rec_tools.specs.declared.request.Request.TheVariants.{Look as Looks, Change as Changes, Preview as Previews}
 use Rattle.rec_tools.specs.Home.{Contents, Write, written, Call, got, lacked, left_by, left_by_all, TellsOf, TellAll, HasFailed, CountsFailure}
 use Rattle.rec_tools.specs.Printouts.{Printed}
-use Rattle.rec_tools.specs.Requests.{Asked, looking, listing, showing, listing_changes, editing, moving, reverting, forgetting, previewing, asked_of, reads_of, WritesNothing}
+use Rattle.rec_tools.specs.Requests.{Asked, looking, listing, showing, listing_changes, changing, previewing, look_of, asked_of, reads_of, IsChange}
 use Rattle.rec_tools.specs.Outcomes.{Outcome, IsRequestOutcome}
 use Rattle.rec_tools.specs.Attempts.{Answer, gots, puts, StopsReading, StopsWriting, IsAnswered, IsCutShort, IsUnread, IsCarriedOut, Does}
 use Rattle.rec_tools.proofs.lemmas.calls.CallLemmas.{Follows, HasFailed-rest, HasFailed-parts, left_by_all-append, failures_stay, failures_rise, contents_follow}
@@ -85,18 +88,33 @@ pub cut_left : (c : Contents) (writes : List Write) (calls : List Call) → Stop
 cut_left c [] calls stops = absurd stops
 cut_left c (w ∷ writes) calls (k, le, e) = (k, ap (left_by_all c) e)
 
--- what writes nothing has no writes
-pub writes_nothing : (c : Contents) (asked : Asked) (o : Outcome) → WritesNothing asked → IsRequestOutcome c asked (Ok o) → o.writes ≡ []
+-- what is asked for is no change
+abbrev pub IsNoChange : Asked → Type 0
+IsNoChange (changing change) = ⊥
+IsNoChange _ = Unit {0}
+
+look-no_change : (look : Look) → IsNoChange (look_of look)
+look-no_change (Show pick form collapse) = tt
+look-no_change (Info record_type form) = tt
+look-no_change Check = tt
+look-no_change History = tt
+look-no_change (Diff number style) = tt
+look-no_change (Log style) = tt
+
+request-no_change : (request : Request) → (IsChange request → ⊥) → IsNoChange (asked_of request)
+request-no_change (Looks look) none = look-no_change look
+request-no_change (Changes change) none = absurd (none tt)
+request-no_change (Previews change style) none = tt
+
+-- so it has no writes
+pub writes_nothing : (c : Contents) (asked : Asked) (o : Outcome) → IsNoChange asked → IsRequestOutcome c asked (Ok o) → o.writes ≡ []
 writes_nothing c (looking IsText) o nothing is = ap (λ (x : Outcome). x.writes) is.2
 writes_nothing c listing o nothing (inl refused) = let e = refused.2 in cc
 writes_nothing c listing o nothing (inr listed) = ap (λ (x : Outcome). x.writes) (same_value o _ listed.2)
-writes_nothing c (editing IsEdit) o nothing is = absurd nothing
-writes_nothing c (moving direction through) o nothing is = absurd nothing
-writes_nothing c (reverting number force) o nothing is = absurd nothing
-writes_nothing c (forgetting n dropping) o nothing is = absurd nothing
+writes_nothing c (changing change) o nothing is = absurd nothing
 writes_nothing c (showing number style) o nothing is = ap (λ (x : Outcome). x.writes) is.2
 writes_nothing c (listing_changes style) o nothing is = ap (λ (x : Outcome). x.writes) is.2
-writes_nothing c (previewing style asked) o nothing is = is.2.writes
+writes_nothing c (previewing style change) o nothing is = is.2.writes
 
 none-written : (o : Outcome) (answer : Answer) (calls : List Call) → o.writes ≡ [] → IsAnswered o answer calls → calls ≡ []
 none-written o answer calls none (inl put) = put.1 ∙ ap puts none
@@ -188,8 +206,8 @@ module _ (c : Contents) (asked : Asked) (calls : List Call) (p : Printed) where
             inr (done.o, cut.0, done.outcome, ap Some (left-carried done.following done.calls_are ∙ cut.1))
       ]
 
-  -- so they are after what writes nothing
-  pub does-looks : (answer : Answer) → WritesNothing asked → Does c asked answer calls p → left_by_all c calls ≡ c
+  -- so they are after what is no change
+  pub does-looks : (answer : Answer) → IsNoChange asked → Does c asked answer calls p → left_by_all c calls ≡ c
   does-looks answer nothing (inl done) = left-stopped c (reads_of asked) calls done.fault done.stops
   does-looks answer nothing (inr (inl done)) = gots-left done.read
   does-looks answer nothing (inr (inr (inl done))) = gots-left done.read
@@ -218,12 +236,12 @@ stopped-told (Some c) new asked answer calls p follow does = λ e.
       | inr cut ↦ inr (subst (IsCutShort c asked) (sym follow.1) cut)
     ]
 
-looks-told : (old new : Option Contents) (asked : Asked) (answer : Answer) (calls : List Call) (p : Printed) → Follows old calls new
-    → ((c : Contents) → TellAll c calls → Does c asked answer calls p)
-    → IfSome old (λ c. WritesNothing asked → new ≡ Some c)
-looks-told None new asked answer calls p follow does = tt
-looks-told (Some c) new asked answer calls p follow does =
-    λ nothing. follow.1 ∙ ap Some (does-looks c asked calls p answer nothing (does c follow.0))
+looks-told : (old new : Option Contents) (request : Request) (answer : Answer) (calls : List Call) (p : Printed) → Follows old calls new
+    → ((c : Contents) → TellAll c calls → Does c (asked_of request) answer calls p)
+    → IfSome old (λ c. (IsChange request → ⊥) → new ≡ Some c)
+looks-told None new request answer calls p follow does = tt
+looks-told (Some c) new request answer calls p follow does =
+    λ none. follow.1 ∙ ap Some (does-looks c (asked_of request) calls p answer (request-no_change request none) (does c follow.0))
 
 -- ---- from what was attempted
 
@@ -255,10 +273,10 @@ module _ {H S : Type 0} (goes : H → Call → H → Type 0) (told : S → Optio
     attempted-unchanged old new out out_new asked answer (calls, p, went_out, (went, tells, does)) =
         unchanged-told (contents old) (contents new) asked answer calls p (contents_follow goes contents follows old new calls went) does
 
-    pub attempted-looks : (old new : H) (out out_new : S) (asked : Asked) (answer : Answer) → Attempted goes told sink_failures old new out out_new asked answer
-        → IfSome (contents old) (λ c. WritesNothing asked → contents new ≡ Some c)
-    attempted-looks old new out out_new asked answer (calls, p, went_out, (went, tells, does)) =
-        looks-told (contents old) (contents new) asked answer calls p (contents_follow goes contents follows old new calls went) does
+    pub attempted-looks : (old new : H) (out out_new : S) (request : Request) (answer : Answer) → Attempted goes told sink_failures old new out out_new (asked_of request) answer
+        → IfSome (contents old) (λ c. (IsChange request → ⊥) → contents new ≡ Some c)
+    attempted-looks old new out out_new request answer (calls, p, went_out, (went, tells, does)) =
+        looks-told (contents old) (contents new) request answer calls p (contents_follow goes contents follows old new calls went) does
 
     pub attempted-stopped : (old new : H) (out out_new : S) (asked : Asked) (answer : Answer) → Attempted goes told sink_failures old new out out_new asked answer
         → IfSome (contents old) (λ c. answer ≡ Err StoreFailed → (contents new ≡ Some c) ⊎ IsCutShort c asked (contents new))

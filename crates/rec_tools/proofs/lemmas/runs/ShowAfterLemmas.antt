@@ -15,15 +15,14 @@ use Rattle.rec_journal.proofs.lemmas.histories.Openings.{one_opening}
 use Rattle.rec_diff.specs.declared.style.DiffStyle.{DiffStyle}
 use Rattle.rec_tools.specs.declared.request.Reply.{Reply}
 use Rattle.rec_tools.specs.declared.request.Reply.TheVariants.{Shown}
-use Rattle.rec_tools.specs.declared.request.Request.{Request}
 use Rattle.rec_tools.specs.Home.{Contents, written}
-use Rattle.rec_tools.specs.Requests.{Asked, looking, listing, showing, listing_changes, editing, moving, reverting, forgetting, previewing, asked_of, WritesNothing}
+use Rattle.rec_tools.specs.Requests.{AskedChange, editing, moving, reverting, forgetting, showing, change_of}
 use Rattle.rec_tools.specs.Reverting.{IsRevertOf}
-use Rattle.rec_tools.specs.Outcomes.{Outcome, IsMade, IsPutBy, edit_reply, revert_reply, IsRequestOutcome, IsPreviewText, LeadsAcross, printing}
+use Rattle.rec_tools.specs.Outcomes.{Outcome, IsMade, IsPutBy, edit_reply, revert_reply, IsChangeOutcome, IsRequestOutcome, IsPreviewText, LeadsAcross, printing}
 use Rattle.rec_tools.specs.Laws.{MadeAnEdit, PreviewIsShowAfter}
 use Rattle.rec_text.proofs.lemmas.FaultLemmas.{no_both, ok_is_no_err, same_value}
 use Rattle.rec_tools.proofs.lemmas.outcomes.OpeningLemmas.{move_differs}
-use Rattle.rec_tools.proofs.lemmas.outcomes.OutcomeLemmas.{one_outcome}
+use Rattle.rec_tools.proofs.lemmas.outcomes.OutcomeLemmas.{one_change, one_change_outcome}
 
 -- the file is another one, and an edit more can be taken back
 record GrewByOne (c d : Contents) : Type 0 where
@@ -52,17 +51,12 @@ grew-put c MakesOf reply_for done made (inr (text, is, inr (o, opens, inr ((tool
     })
 
 -- so it can after what made an edit, or made one again
-grew : (c : Contents) (asked : Asked) (done : Outcome) → (WritesNothing asked → ⊥) → MadeAnEdit done.reply → IsRequestOutcome c asked (Ok done) → GrewByOne c (written c done.writes)
-grew c (looking IsText) done writes made is = absurd (writes tt)
-grew c listing done writes made is = absurd (writes tt)
-grew c (showing number style) done writes made is = absurd (writes tt)
-grew c (listing_changes style) done writes made is = absurd (writes tt)
-grew c (previewing style asked) done writes made is = absurd (writes tt)
-grew c (editing IsEdit) done writes made is = grew-put c (λ _. IsMade IsEdit c.file) (λ o. edit_reply o.next o.dropped) done made is
-grew c (reverting number force) done writes made is = grew-put c (λ o. IsRevertOf number force o c.file) (λ o. revert_reply number o.next) done made is
-grew c (moving direction through) done writes made (inl (fault, refused, e)) = absurd (no_both done fault e)
-grew c (moving Backward through) done writes made (inr (o, opens, (settled, here, m))) = absurd (subst (λ (x : Outcome). MadeAnEdit x.reply) m.is made)
-grew c (moving Forward through) done writes made (inr (o, opens, (settled, here, m))) =
+grew : (c : Contents) (change : AskedChange) (done : Outcome) → MadeAnEdit done.reply → IsChangeOutcome c change (Ok done) → GrewByOne c (written c done.writes)
+grew c (editing IsEdit) done made is = grew-put c (λ _. IsMade IsEdit c.file) (λ o. edit_reply o.next o.dropped) done made is
+grew c (reverting number force) done made is = grew-put c (λ o. IsRevertOf number force o c.file) (λ o. revert_reply number o.next) done made is
+grew c (moving direction through) done made (inl (fault, refused, e)) = absurd (no_both done fault e)
+grew c (moving Backward through) done made (inr (o, opens, (settled, here, m))) = absurd (subst (λ (x : Outcome). MadeAnEdit x.reply) m.is made)
+grew c (moving Forward through) done made (inr (o, opens, (settled, here, m))) =
     subst (λ (x : Outcome). GrewByOne c (written c x.writes)) (sym m.is) (record {
       differ = move_differs c.file c.journal o opens Forward m.moves.nearest m.moves.others m.moves.there m.plan.file m.moves.leads;
       before = o;
@@ -71,9 +65,9 @@ grew c (moving Forward through) done writes made (inr (o, opens, (settled, here,
       opens_after = m.safe.next;
       one_more = omega arith;
     })
-grew c (forgetting n dropping) done writes made (inl (fault, refused, e)) = absurd (no_both done fault e)
-grew c (forgetting n dropping) done writes made (inr (o, opens, (settled, inl (few, e)))) = absurd (subst (λ (x : Outcome). MadeAnEdit x.reply) e made)
-grew c (forgetting n dropping) done writes made (inr (o, opens, (settled, inr (more, f)))) = absurd (subst (λ (x : Outcome). MadeAnEdit x.reply) f.is made)
+grew c (forgetting n dropping) done made (inl (fault, refused, e)) = absurd (no_both done fault e)
+grew c (forgetting n dropping) done made (inr (o, opens, (settled, inl (few, e)))) = absurd (subst (λ (x : Outcome). MadeAnEdit x.reply) e made)
+grew c (forgetting n dropping) done made (inr (o, opens, (settled, inr (more, f)))) = absurd (subst (λ (x : Outcome). MadeAnEdit x.reply) f.is made)
 
 -- a history with an edit hasn't drifted
 not_drifted : (file journal : List ℕ) (o : Opened) (e : Revision) (others : List Revision) → Opens file journal o → o.past ≡ e ∷ others → o.drifted ≡ false
@@ -126,7 +120,7 @@ module _ (c d : Contents) (style : DiffStyle) (text : List ℕ) (grows : GrewByO
   shown_after (inl (same, none)) = absurd (grows.differ same)
 
 pub preview_is_show_after : PreviewIsShowAfter
-preview_is_show_after c request style done previewed writes made is (would, is_too, preview) =
-    let same = same_value would done (one_outcome c request (Ok would) (Ok done) is_too is (no_both would BadPattern) (no_both done BadPattern)) in
-    shown_after c (written c done.writes) style previewed.text (grew c (asked_of request) done writes made is)
+preview_is_show_after c change style done previewed made is (would, is_too, preview) =
+    let same = same_value would done (one_change_outcome c (change_of change) (one_change change) (Ok would) (Ok done) is_too is (no_both would BadPattern) (no_both done BadPattern)) in
+    shown_after c (written c done.writes) style previewed.text (grew c (change_of change) done made is)
     (subst (λ (w : Outcome). IsPreviewText style c (written c w.writes) previewed.text) same preview.text)

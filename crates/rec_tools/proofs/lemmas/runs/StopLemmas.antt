@@ -12,9 +12,9 @@ use Rattle.rec_journal.specs.declared.event.Tool.{Tool}
 use Rattle.rec_tools.specs.declared.request.Reply.{Reply}
 use Rattle.rec_tools.specs.Home.{Contents, Write, writes_by, written, Call, left_by_all}
 use Rattle.rec_tools.specs.Printouts.{Printed}
-use Rattle.rec_tools.specs.Requests.{Asked, looking, listing, showing, listing_changes, editing, moving, reverting, forgetting, previewing, asked_of, reads_of}
+use Rattle.rec_tools.specs.Requests.{AskedChange, editing, moving, reverting, forgetting, Asked, looking, listing, showing, listing_changes, changing, previewing, asked_of, reads_of}
 use Rattle.rec_tools.specs.Reverting.{IsRevertOf}
-use Rattle.rec_tools.specs.Outcomes.{Outcome, IsRequestOutcome, IsMade, IsPutBy, edit_reply, revert_reply}
+use Rattle.rec_tools.specs.Outcomes.{Outcome, IsChangeOutcome, IsRequestOutcome, IsMade, IsPutBy, edit_reply, revert_reply}
 use Rattle.rec_tools.specs.Attempts.{Answer, StopsWriting, IsAnswered, IsCarriedOut, Does}
 use Rattle.rec_tools.specs.Machine.{State, IsOldOrNext, Stands}
 use Rattle.rec_tools.specs.Guarantee.{StopsAreSteps, WritesAreRegular}
@@ -101,21 +101,24 @@ module _ (c : Contents) (regular : IsRegular c.journal) where
   leaves-put MakesOf reply_for outcome (inr (text, is, inr (o, opens, inr (made, done, inr (differs, (plan, planned, e)))))) =
       subst (λ (x : Outcome). Leaves c x.writes) (sym e) (leaves-plan o _ opens plan planned.safe)
 
+  leaves_change : (change : AskedChange) (outcome : Outcome) → IsChangeOutcome c change (Ok outcome) → Leaves c outcome.writes
+  leaves_change (editing IsEdit) outcome is = leaves-put (λ _. IsMade IsEdit c.file) (λ o. edit_reply o.next o.dropped) outcome is
+  leaves_change (reverting number force) outcome is = leaves-put (λ o. IsRevertOf number force o c.file) (λ o. revert_reply number o.next) outcome is
+  leaves_change (moving direction through) outcome (inl refused) = let e = refused.2 in cc
+  leaves_change (moving direction through) outcome (inr (o, opens, (settled, here, m))) =
+      subst (λ (x : Outcome). Leaves c x.writes) (sym m.is) (leaves-plan o _ opens m.plan m.safe)
+  leaves_change (forgetting n dropping) outcome (inl refused) = let e = refused.2 in cc
+  leaves_change (forgetting n dropping) outcome (inr (o, opens, (settled, inl (few, e)))) = leaves-nothing outcome.writes (ap (λ (x : Outcome). x.writes) e)
+  leaves_change (forgetting n dropping) outcome (inr (o, opens, (settled, inr (more, f)))) =
+      subst (λ (x : Outcome). Leaves c x.writes) (sym f.is) (leaves-journal (forgotten_journal (length o.past - (length o.past - n)) o) f.regular)
+
   leaves : (asked : Asked) (outcome : Outcome) → IsRequestOutcome c asked (Ok outcome) → Leaves c outcome.writes
   leaves (looking IsText) outcome is = leaves-nothing outcome.writes (writes_nothing c (looking IsText) outcome tt is)
   leaves listing outcome is = leaves-nothing outcome.writes (writes_nothing c listing outcome tt is)
   leaves (showing number style) outcome is = leaves-nothing outcome.writes (writes_nothing c (showing number style) outcome tt is)
   leaves (listing_changes style) outcome is = leaves-nothing outcome.writes (writes_nothing c (listing_changes style) outcome tt is)
-  leaves (previewing style asked) outcome is = leaves-nothing outcome.writes (writes_nothing c (previewing style asked) outcome tt is)
-  leaves (editing IsEdit) outcome is = leaves-put (λ _. IsMade IsEdit c.file) (λ o. edit_reply o.next o.dropped) outcome is
-  leaves (reverting number force) outcome is = leaves-put (λ o. IsRevertOf number force o c.file) (λ o. revert_reply number o.next) outcome is
-  leaves (moving direction through) outcome (inl refused) = let e = refused.2 in cc
-  leaves (moving direction through) outcome (inr (o, opens, (settled, here, m))) =
-      subst (λ (x : Outcome). Leaves c x.writes) (sym m.is) (leaves-plan o _ opens m.plan m.safe)
-  leaves (forgetting n dropping) outcome (inl refused) = let e = refused.2 in cc
-  leaves (forgetting n dropping) outcome (inr (o, opens, (settled, inl (few, e)))) = leaves-nothing outcome.writes (ap (λ (x : Outcome). x.writes) e)
-  leaves (forgetting n dropping) outcome (inr (o, opens, (settled, inr (more, f)))) =
-      subst (λ (x : Outcome). Leaves c x.writes) (sym f.is) (leaves-journal (forgotten_journal (length o.past - (length o.past - n)) o) f.regular)
+  leaves (previewing style change) outcome is = leaves-nothing outcome.writes (writes_nothing c (previewing style change) outcome tt is)
+  leaves (changing change) outcome is = leaves_change change outcome is
 
 -- ---- an outcome's writes
 

@@ -10,22 +10,21 @@ use Rattle.rec_journal.specs.declared.patch.Direction.{Direction}
 use Rattle.rec_journal.specs.declared.patch.Direction.TheVariants.{Forward, Backward}
 use Rattle.rec_journal.specs.History.{IsRegular}
 use Rattle.rec_tools.specs.declared.request.Request.{Request}
+use Rattle.rec_tools.specs.declared.request.Request.TheVariants.{Change as Changes}
 use Rattle.rec_tools.specs.declared.through.Through.{Through}
-use Rattle.rec_tools.specs.Home.{Contents, Call, left_by, left_by_all, TellsOf, HasFailed, WentOn}
-use Rattle.rec_tools.specs.Printouts.{Printed, WentOut}
-use Rattle.rec_tools.specs.Requests.{asked_of, IsSilent}
+use Rattle.rec_tools.specs.Home.{Contents, Call, left_by, left_by_all, TellsOf, HasFailed, Went, WentOn}
+use Rattle.rec_tools.specs.Printouts.{Printed, IsSilence}
+use Rattle.rec_tools.specs.Requests.{changing, change_of}
 use Rattle.rec_tools.specs.Attempts.{Answer, AttemptsAll}
 use Rattle.rec_tools.specs.Machine.{State, Stands}
 use Rattle.rec_tools.specs.Guarantee.{RunsAsMachine}
 use Rattle.rec_tools.specs.Through.{move_through, moves_through, moved_by, leads_on, LeadThrough, all_moved, EndsThrough}
 use Rattle.rec_tools.specs.proving.Moving.{GoesThrough}
-use Rattle.rec_tools.proofs.lemmas.calls.ExitLemmas.{Attempted}
-use Rattle.rec_tools.proofs.lemmas.runs.RunAllLemmas.{AttemptedAll, RanAsMachine, RanWithFailures, attempted_all-none, attempted_all-more, attempted_all-runs, attempted_all-fails}
-
--- nothing is printed for a move
-pub silent_move : (direction : Direction) (number : ℕ) → IsSilent (asked_of (move_through direction number))
-silent_move Backward number = tt
-silent_move Forward number = tt
+use Rattle.rec_tools.specs.proving.Silently.{DoesSilently}
+use Rattle.rec_tools.proofs.lemmas.calls.CallLemmas.{Follows, contents_follow}
+use Rattle.rec_tools.proofs.lemmas.calls.ExitLemmas.{silence}
+use Rattle.rec_tools.proofs.lemmas.runs.GuaranteeLemmas.{attempts_all-runs, attempts_all-fails}
+use Rattle.rec_tools.proofs.lemmas.runs.RunAllLemmas.{AttemptsAll-went, AttemptsAll-more}
 
 -- ---- answers that lead on
 
@@ -127,89 +126,95 @@ module _ (direction : Direction) (number : ℕ) (answers : List Answer) (first l
     answer = last_answer answers answer;
   }
 
--- ---- on a home and a sink
+-- ---- on a home
 
-module _ {H S : Type 0} (goes : H → Call → H → Type 0) (told : S → Option (List ℕ)) (sink_failures : S → ℕ) where
+module _ {H : Type 0} (goes : H → Call → H → Type 0) (direction : Direction) (number : ℕ) where
   -- moves through the edit of a number were asked for, and each led on
-  pub record SoFar (direction : Direction) (number : ℕ) (old home : H) (out now : S) (first last : Option ℕ) : Type 0 where
+  pub record SoFar (old home : H) (first last : Option ℕ) : Type 0 where
     pub answers : List Answer
     pub led : HaveLed direction number answers first last
-    pub silent : now ≡ out
-    pub done : AttemptedAll goes told sink_failures old home out now (replicate (length answers) (move_through direction number)) answers
+    pub calls : List Call
+    pub done : AttemptsAll goes old home (moves_through direction number answers) answers calls (silence 0)
 
-  pub none_so_far : (direction : Direction) (number : ℕ) (home : H) (out : S) → SoFar direction number home home out out None None
-  none_so_far direction number home out =
-      record { answers = []; led = none_led direction number; silent = refl; done = attempted_all-none goes told sink_failures home out }
+  pub none_so_far : (home : H) → SoFar home home None None
+  none_so_far home = record { answers = []; led = none_led direction number; calls = []; done = (refl, refl, (refl, refl)) }
 
-  module _ (direction : Direction) (number : ℕ) (old home new : H) (out mid now : S) (first last moved : Option ℕ) (answer : Answer)
-      (so_far : SoFar direction number old home out mid first last) (is : moved ≡ moved_by answer) (silent : now ≡ mid)
-      (tried : Attempted goes told sink_failures home new mid now (asked_of (move_through direction number)) answer) where
+  module _ (old home new : H) (first last moved : Option ℕ) (answer : Answer) (so_far : SoFar old home first last) (is : moved ≡ moved_by answer)
+      (tried : DoesSilently goes home new (changing (change_of (move_through direction number))) answer) where
     abbrev all_answers : List Answer
     all_answers = so_far.answers ++ answer ∷ []
 
-    abbrev the_request : Request
-    the_request = move_through direction number
+    abbrev the_move : Request
+    the_move = Changes (move_through direction number)
 
-    done_more : AttemptedAll goes told sink_failures old new out now (replicate (length all_answers) the_request) all_answers
+    done_more : AttemptsAll goes old new (moves_through direction number all_answers) all_answers (so_far.calls ++ tried.0) (silence 0)
     done_more =
-        subst (λ requests. AttemptedAll goes told sink_failures old new out now requests all_answers) (replicate_one_more so_far.answers answer the_request)
-        (attempted_all-more goes told sink_failures out mid now (omega (arith, ap sink_failures so_far.silent)) (omega (arith, ap sink_failures silent))
-        old home new (replicate (length so_far.answers) the_request) so_far.answers the_request answer so_far.done tried)
+        subst (λ requests. AttemptsAll goes old new requests all_answers (so_far.calls ++ tried.0) (silence 0)) (replicate_one_more so_far.answers answer the_move)
+        (AttemptsAll-more goes old home new (moves_through direction number so_far.answers) so_far.answers so_far.calls the_move answer tried.0 (silence 0) (silence 0) (silence 0)
+        (refl, refl, refl, refl, omega arith) (omega arith) so_far.done (tried.1 (silence 0) (refl, refl)))
 
-    pub one_led : leads_on direction number last moved ≡ true → SoFar direction number old new out now (option_or first moved) (option_or moved last)
+    pub one_led : leads_on direction number last moved ≡ true → SoFar old new (option_or first moved) (option_or moved last)
     one_led leads = record {
       answers = all_answers;
       led = led_more direction number so_far.answers first last moved answer so_far.led is leads;
-      silent = silent ∙ so_far.silent;
+      calls = so_far.calls ++ tried.0;
       done = done_more;
     }
 
     pub one_ended : leads_on direction number last moved ≡ false
-        → GoesThrough goes told sink_failures direction number old new out now (record { first = option_or first moved; last = option_or moved last; answer = answer })
-    one_ended ends =
-        (all_answers, led_ended direction number so_far.answers first last moved answer so_far.led is ends, done_more.0, done_more.1, done_more.2, done_more.3)
+        → GoesThrough goes direction number old new (record { first = option_or first moved; last = option_or moved last; answer = answer })
+    one_ended ends = (
+      all_answers,
+      led_ended direction number so_far.answers first last moved answer so_far.led is ends,
+      so_far.calls ++ tried.0,
+      silence 0,
+      (refl, refl),
+      done_more,
+    )
 
   -- ---- the machine
 
-  module _ (direction : Direction) (number : ℕ) (old new : H) (out now : S) (ended : Through) where
+  module _ (old new : H) (ended : Through) (contents : H → Option Contents) where
     -- from contents that stand for a state the moves ran as the machine, where no call failed
-    abbrev pub RanThrough : (H → Option Contents) → Option Contents → Type 0
-    RanThrough contents known = IfSome known (λ c. (s : State) → Stands c s → (answers : List Answer) × EndsThrough direction number answers ended
-        × (calls : List Call) × (p : Printed) × WentOut told sink_failures out now p
-        × WentOn goes contents c old calls new
+    abbrev pub RanThrough : Option Contents → Type 0
+    RanThrough known = IfSome known (λ c. (s : State) → Stands c s → (answers : List Answer) × EndsThrough direction number answers ended
+        × (calls : List Call) × (p : Printed) × IsSilence p × WentOn goes contents c old calls new
         × ((HasFailed calls → ⊥) → (t : State) × RunsAsMachine c s (moves_through direction number answers) answers calls p t))
 
     -- the same whatever fails, from a regular journal, which stays so
-    abbrev pub FailedThrough : (H → Option Contents) → Option Contents → Type 0
-    FailedThrough contents known =
+    abbrev pub FailedThrough : Option Contents → Type 0
+    FailedThrough known =
         IfSome known (λ c. (s : State) → Stands c s → IsRegular c.journal → (answers : List Answer) × EndsThrough direction number answers ended
-        × (calls : List Call) × (p : Printed) × (t : State) × WentOut told sink_failures out now p
-        × WentOn goes contents c old calls new
+        × (calls : List Call) × (p : Printed) × (t : State) × IsSilence p × WentOn goes contents c old calls new
         × RunsAsMachine c s (moves_through direction number answers) answers calls p t × IsRegular (left_by_all c calls).journal)
 
-    module _ (answers : List Answer) (ends : EndsThrough direction number answers ended) where
-      ran_through : (contents : H → Option Contents) (known : Option Contents)
-          → RanAsMachine goes told sink_failures contents known old new out now (moves_through direction number answers) answers → RanThrough contents known
-      ran_through contents None ran = tt
-      ran_through contents (Some c) ran = λ s stands. let r = ran s stands in (answers, ends, r.0, r.1, r.2, r.3, r.4)
+    went : (through : GoesThrough goes direction number old new ended) → Went goes old through.2 new
+    went (answers, ends, calls, p, silent, done) = AttemptsAll-went goes old new (moves_through direction number answers) answers calls p done
 
-      failed_through : (contents : H → Option Contents) (known : Option Contents)
-          → RanWithFailures goes told sink_failures contents known old new out now (moves_through direction number answers) answers → FailedThrough contents known
-      failed_through contents None ran = tt
-      failed_through contents (Some c) ran = λ s stands regular.
-          let r = ran s stands regular in (answers, ends, r.0, r.1, r.2, r.3, r.4, r.5, r.6)
+    ran_through : (known : Option Contents) (through : GoesThrough goes direction number old new ended) → Follows known through.2 (contents new) → RanThrough known
+    ran_through None through follow = tt
+    ran_through (Some c) (answers, ends, calls, p, silent, done) follow = λ s stands. (
+      answers,
+      ends,
+      calls,
+      p,
+      silent,
+      (went (answers, ends, calls, p, silent, done), follow.1),
+      λ held. attempts_all-runs goes old new c s (moves_through direction number answers) answers calls p stands held follow.0 done,
+    )
 
-    module _ (contents : H → Option Contents)
-        (follows : (one other : H) (call : Call) → goes one call other → IfSome (contents one) (λ c. TellsOf c call × (contents other ≡ Some (left_by c call)))) where
-      pub ended-runs : GoesThrough goes told sink_failures direction number old new out now ended → RanThrough contents (contents old)
-      ended-runs (answers, ends, calls, p, went_out, done) =
-          ran_through answers ends contents (contents old)
-          (attempted_all-runs goes told sink_failures contents follows old new out now (moves_through direction number answers) answers (calls, p, went_out, done))
+    failed_through : (known : Option Contents) (through : GoesThrough goes direction number old new ended) → Follows known through.2 (contents new) → FailedThrough known
+    failed_through None through follow = tt
+    failed_through (Some c) (answers, ends, calls, p, silent, done) follow = λ s stands regular.
+        let ran = attempts_all-fails goes old new c s (moves_through direction number answers) answers calls p stands regular follow.0 done in
+        (answers, ends, calls, p, ran.0, silent, (went (answers, ends, calls, p, silent, done), follow.1), ran.1, ran.2)
 
-      pub ended-fails : GoesThrough goes told sink_failures direction number old new out now ended → FailedThrough contents (contents old)
-      ended-fails (answers, ends, calls, p, went_out, done) =
-          failed_through answers ends contents (contents old)
-          (attempted_all-fails goes told sink_failures contents follows old new out now (moves_through direction number answers) answers (calls, p, went_out, done))
+    module _ (follows : (one other : H) (call : Call) → goes one call other → IfSome (contents one) (λ c. TellsOf c call × (contents other ≡ Some (left_by c call)))) where
+      pub ended-runs : GoesThrough goes direction number old new ended → RanThrough (contents old)
+      ended-runs through = ran_through (contents old) through (contents_follow goes contents follows old new through.2 (went through))
+
+      pub ended-fails : GoesThrough goes direction number old new ended → FailedThrough (contents old)
+      ended-fails through = failed_through (contents old) through (contents_follow goes contents follows old new through.2 (went through))
 
 -- ---- the moves end
 

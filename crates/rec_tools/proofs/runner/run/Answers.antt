@@ -16,7 +16,7 @@ returns-clause-unchanged g c =
 
 pub returns-clause-looks : goal.returns-clause-looks
 returns-clause-looks g c =
-    attempted-looks g.H.Home.goes g.S.Sink.contents g.S.Sink.failure_count g.H.Home.contents g.met.H.Home.follows _ _ c.args.out.now c.attempt.new.out _ _ c.attempt.ensures.attempts
+    attempted-looks g.H.Home.goes g.S.Sink.contents g.S.Sink.failure_count g.H.Home.contents g.met.H.Home.follows _ _ c.args.out.now c.attempt.new.out c.args.request.now _ c.attempt.ensures.attempts
 
 pub returns-clause-stopped : goal.returns-clause-stopped
 returns-clause-stopped g c =

@@ -1,5 +1,5 @@
 use Rattle.std.proofs.Common.{◌∙◌, arith, rules}
-use Rattle.rec_tools.proofs.lemmas.runs.RunAllLemmas.{AttemptedAll, attempted_all-none, attempted_all-more, attempted_all-runs, attempted_all-fails, silent_at, take_one_more, take_them_all}
+use Rattle.rec_tools.proofs.lemmas.runs.RunAllLemmas.{AttemptedAll, attempted_all-none, attempted_all-more, attempted_all-runs, attempted_all-fails, change_at, take_one_more, take_them_all}
 use Rattle.rec_tools.proofs.runner.run_all.Goals as goal
 
 pub loop-request-init : goal.loop-request-init
@@ -21,7 +21,7 @@ loop-request-preserved g c =
       counted = omega arith;
       answered = omega arith;
       room = omega arith;
-      silent = λ silent. c.run.ensures.silent (silent_at _ _ _ c.loop-request-test.true c.request-item.is silent) ∙ so_far.silent silent;
+      silent = λ silent. c.run.ensures.silent (change_at _ _ _ c.loop-request-test.true c.request-item.is silent) ∙ so_far.silent silent;
     }
 
 pub returns-clause-attempts : goal.returns-clause-attempts

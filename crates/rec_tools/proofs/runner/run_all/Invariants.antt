@@ -1,6 +1,7 @@
 use Rattle.std.proofs.Common.{◌≡◌, ◌≤◌, length, take, vec_len, vec_capacity}
 use Rattle.std.specs.List.{AllByRecursion}
-use Rattle.rec_tools.proofs.lemmas.runs.RunAllLemmas.{AttemptedAll, IsSilentRequest}
+use Rattle.rec_tools.specs.Requests.{IsChange}
+use Rattle.rec_tools.proofs.lemmas.runs.RunAllLemmas.{AttemptedAll}
 use Rattle.rec_tools.proofs.runner.run_all.Given as goal
 
 -- the requests so far have their answers, and there is room for the others
@@ -10,5 +11,5 @@ invariant-loop-request g l = record {
   counted : g.S.Sink.failure_count l.fn.out ≤ g.S.Sink.failure_count l.out;
   answered : vec_len l.answers ≡ l.request-index;
   room : vec_capacity l.answers ≡ length l.requests;
-  silent : AllByRecursion IsSilentRequest l.requests → l.out ≡ l.fn.out;
+  silent : AllByRecursion IsChange l.requests → l.out ≡ l.fn.out;
 }

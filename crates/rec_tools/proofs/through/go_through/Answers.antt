@@ -3,14 +3,14 @@ use Rattle.rec_tools.proofs.lemmas.runs.ThroughLemmas.{none_so_far, one_led, one
 use Rattle.rec_tools.proofs.through.go_through.Goals as goal
 
 pub loop-alloc-init : goal.loop-alloc-init
-loop-alloc-init g c = none_so_far g.H.Home.goes g.S.Sink.contents g.S.Sink.failure_count c.args.direction c.args.number c.args.home.now c.args.out.now
+loop-alloc-init g c = none_so_far g.H.Home.goes c.args.direction c.args.number c.args.home.now
 
 pub loop-alloc-preserved : goal.loop-alloc-preserved
 loop-alloc-preserved g c =
-    rw (c.or-first.ensures, c.or-last.ensures) (one_led g.H.Home.goes g.S.Sink.contents g.S.Sink.failure_count c.args.direction c.args.number
-    c.args.home.now c.loop-alloc.home c.move_once-answer.new.home c.args.out.now c.loop-alloc.out c.move_once-answer.new.out
+    rw (c.or-first.ensures, c.or-last.ensures) (one_led g.H.Home.goes c.args.direction c.args.number
+    c.args.home.now c.loop-alloc.home c.move_once-answer.new.home
     c.loop-alloc.first c.loop-alloc.last c.moved_by-moved.result c.move_once-answer.result
-    c.loop-alloc.invariant c.moved_by-moved.ensures.moved c.move_once-answer.ensures.silent c.move_once-answer.ensures.attempts
+    c.loop-alloc.invariant c.moved_by-moved.ensures.moved c.move_once-answer.ensures
     (sym c.leads_on-ends.ensures ∙ c.if-ends.false))
 
 pub loop-alloc-smaller : goal.loop-alloc-smaller
@@ -19,13 +19,10 @@ loop-alloc-smaller g c =
     (first_of (search rules, omega arith, omega (arith, c.ranges.number.fits))) c.moved_by-moved.ensures.bounded
     (sym c.leads_on-ends.ensures ∙ c.if-ends.false))
 
-pub returns-then-ends-clause-through : goal.returns-then-ends-clause-through
-returns-then-ends-clause-through g c =
-    rw (c.or-first.ensures, c.or-last.ensures) (one_ended g.H.Home.goes g.S.Sink.contents g.S.Sink.failure_count c.args.direction c.args.number
-    c.args.home.now c.loop-alloc.home c.move_once-answer.new.home c.args.out.now c.loop-alloc.out c.move_once-answer.new.out
+pub returns-then-ends : goal.returns-then-ends
+returns-then-ends g c =
+    rw (c.or-first.ensures, c.or-last.ensures) (one_ended g.H.Home.goes c.args.direction c.args.number
+    c.args.home.now c.loop-alloc.home c.move_once-answer.new.home
     c.loop-alloc.first c.loop-alloc.last c.moved_by-moved.result c.move_once-answer.result
-    c.loop-alloc.invariant c.moved_by-moved.ensures.moved c.move_once-answer.ensures.silent c.move_once-answer.ensures.attempts
+    c.loop-alloc.invariant c.moved_by-moved.ensures.moved c.move_once-answer.ensures
     (sym c.leads_on-ends.ensures ∙ c.if-ends.true))
-
-pub returns-then-ends-clause-silent : goal.returns-then-ends-clause-silent
-returns-then-ends-clause-silent g c = c.move_once-answer.ensures.silent ∙ c.loop-alloc.invariant.silent

@@ -1,28 +1,15 @@
-use Rattle.std.proofs.Common.{◌∙◌, sym}
-use Rattle.recu.proofs.AnswerLemmas.{match-some, match-none}
+use Rattle.std.proofs.Common.{refl}
 use Rattle.recu.proofs.answering.answer_to.Goals as goal
 
-pub returns-in-Some : goal.returns-in-Some
-returns-in-Some g c = record {
-  answers = (
-    c.move_through.ensures.answers.0,
-    match-some _ (c.in-Some.direction, c.in-Some.number) _ _ (sym c.through_of.ensures ∙ c.in-Some.is)
-        c.move_through.ensures.answers.1,
-    c.move_through.ensures.answers.2,
-  );
-}
+pub returns-in-Once : goal.returns-in-Once
+returns-in-Once g c =
+    record { answers = (c.run_once-answer.new.home, rw c.in-Once.is c.run_once-answer.ensures.answers, c.close.ensures) }
 
-pub returns-in-None : goal.returns-in-None
-returns-in-None g c = record {
-  answers = (
-    c.run_alone-answer.new.home,
-    match-none _ _ _ (sym c.through_of.ensures ∙ c.in-None.is) c.run_alone-answer.ensures.answers,
-    record {
-      shut = c.close.ensures.shut;
-      disk = c.close.ensures.same;
-      file = c.close.ensures.paths.0;
-      journal = c.close.ensures.paths.1;
-      failed = c.close.ensures.kept;
-    },
-  );
-}
+pub returns-in-Through : goal.returns-in-Through
+returns-in-Through g c =
+    let (done, answered, closed) = c.move_through.ensures.answers in
+    record { answers = (done, rw c.in-Through.is (refl, answered), closed) }
+
+pub returns-in-DryThrough : goal.returns-in-DryThrough
+returns-in-DryThrough g c =
+    record { answers = (c.run_dry-answer.new.home, rw c.in-DryThrough.is c.run_dry-answer.ensures.answers, c.close-in-DryThrough.ensures) }

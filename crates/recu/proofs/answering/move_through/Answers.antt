@@ -2,7 +2,7 @@ use Rattle.recu.proofs.answering.move_through.Goals as goal
 
 pub returns : goal.returns
 returns g c =
-    let (answers, ends, (calls, printed, out, done), on_disk) = c.run_through-through.ensures.attempts in
+    let (answers, ends, (calls, printed, silent, done), on_disk) = c.run_through-through.ensures.attempts in
     record {
       answers = (
         c.run_through-through.new.home,
@@ -12,7 +12,7 @@ returns g c =
           ends = ends;
           calls = calls;
           printed = printed;
-          went_out = out;
+          silent = silent;
           attempts = done;
           on_disk = on_disk;
           moved = c.answer_of.ensures;

@@ -7,7 +7,7 @@ returns-in-Ok g c =
     let done = c.do_task.ensures.answer in
     record {
       answer = (
-        Ok (task.request, option_map string_bytes task.paths.file, option_map string_bytes task.paths.journal),
+        Ok (task.job, option_map string_bytes task.paths.file, option_map string_bytes task.paths.journal),
         c.in-Ok.ensures.found,
         record {
           disk = done.disk;

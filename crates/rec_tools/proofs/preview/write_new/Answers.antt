@@ -1,5 +1,5 @@
 use Rattle.rec_tools.proofs.lemmas.runs.PreviewLemmas.{nothing_written}
-use Rattle.rec_tools.proofs.preview.write_change.Goals as goal
+use Rattle.rec_tools.proofs.preview.write_new.Goals as goal
 
 pub write_diff-requires : goal.write_diff-requires
 write_diff-requires g c = record { leads = rw (c.as_slice-steps.ensures, c.as_slice-text.ensures) (rw c.in-Some.is at c.requires) }

@@ -1,7 +1,7 @@
 use Rattle.std.proofs.Common.{[]}
 use Rattle.rec_tools.proofs.lemmas.calls.AttemptLemmas.{refused_with, read-stopped}
 use Rattle.rec_tools.proofs.lemmas.calls.ExitLemmas.{attempted-unread, attempted-printed}
-use Rattle.rec_tools.proofs.runner.look.Goals as goal
+use Rattle.rec_tools.proofs.runner.tell.Goals as goal
 
 -- ---- records are printed
 

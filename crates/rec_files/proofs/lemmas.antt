@@ -2,6 +2,10 @@ pub mod Leftovers
 pub mod Outcomes
 pub mod Removing
 pub mod Placing
+pub mod Playing
+pub mod Promises
+pub mod Played
+pub mod Settling
 pub mod Holding
 pub mod Steps
 pub mod Links

@@ -2,3 +2,4 @@
 pub mod Replacing
 pub mod Recovering
 pub mod Succeeding
+pub mod Steps

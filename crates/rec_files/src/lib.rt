@@ -18,6 +18,7 @@ mod output;
 mod reading;
 mod replacing;
 mod running;
+mod steps;
 mod target;
 mod working_file;
 

@@ -1,9 +1,7 @@
 //! Files under the working names: made and locked.
-ghost use Rattle.std.specs.Prelude.{◌≡◌, ◌≢◌, ◌↔◌, List, ℕ, Some, None, false, IsTrue, IfOk, IfErr};
-ghost use Rattle.rec_disk.specs.Disk.{Told, IsMemory, AtAnyMoment};
-ghost use Rattle.rec_disk.specs.proving.Places.{Avoids};
-ghost use Rattle.rec_files.specs.proving.Replacing.{IsFreeAt, SparesBut};
-ghost use Rattle.rec_files.specs.proving.Recovering.{IsMaking};
+ghost use Rattle.std.specs.Prelude.{◌≡◌, ◌↔◌, None, IsTrue, IfOk};
+ghost use Rattle.rec_disk.specs.Disk.{Goes, Told, IsMake, IsMemory};
+ghost use Rattle.rec_files.specs.proving.Replacing.{IsFreeAt};
 ghost use Rattle.rec_files.specs.Succeeding.{IsTold, IsForMemory};
 ghost use Rattle.rec_files.specs.proving.Succeeding.{Succeeds};
 
@@ -15,15 +13,9 @@ use std::io::{Error, ErrorKind};
 
 /// Makes a file under a working name, at which nothing may stand.
 pub fn create<D: Disk>(disk: &mut D, name: &str) -> Result<D::File, Cause>
-    ensures at { IfOk result (λ file. Told (D.story disk.new) (λ t. t.at (D.place name.now) ≡ Some (D.number file))) }
-    ensures avoids { (p : List ℕ) → p ≢ D.place name.now
-        → IfOk result (λ file. Told (D.story disk.new) (λ t. Avoids t p (D.number file))) }
-    ensures spares { SparesBut (D.place name.now) (D.story disk.old) (D.story disk.new) }
-    ensures free { IfOk result (λ file. Told (D.story disk.new) (λ t. t.held (D.number file) ≡ false)) }
+    ensures goes { Goes (D.story disk.old) (D.story disk.new) result (IsMake D.number (D.place name.now) result) }
     ensures succeeds { Succeeds IsForMemory (D.works disk.old) (D.works disk.new) (IsTold (D.story disk.old)
         (λ s. s.at (D.place name.now) ≡ None)) result }
-    ensures making { AtAnyMoment (D.story disk.old) (D.story disk.new) (IsMaking (D.place name.now)) }
-    ensures unmade { IfErr result (λ cause. D.story disk.new ≡ D.story disk.old) }
 {
     match disk.make(name) {
         Ok(file) => Ok(file),

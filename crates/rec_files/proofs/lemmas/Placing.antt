@@ -87,10 +87,6 @@ module _ (folder : List ℕ → List ℕ) (syncs : List ℕ → Bool) (crash : B
     journal = outlasts-placed folder wj p.journal s crash (HasJournal journal) syncs u (λ e. (can e).1) (new_journal s waits) placed;
   }
 
-  pub file_waits : (s u : State) → Waits s wf file → IsPlaced folder syncs wj p.journal s u → Waits u wf file
-  file_waits s u waits placed =
-      waits_still wf file s u (spares-placed folder wj p.journal s syncs wf u (λ e. apart.new_pair (sym e)) (λ e. apart.journal_new_file (sym e)) placed) waits
-
   pub file_placing : (s u : State) → LastAs crash p c.file journal s → Waits s wf file → IsPlacing folder wf p.file s u
       → Lasts crash (Either (HasFile c.file) (HasFile file)) (HasJournal journal) p u
   file_placing s u was waits placing = record {

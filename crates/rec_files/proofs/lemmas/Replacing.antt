@@ -15,7 +15,7 @@ use Rattle.rec_files.specs.OnDisk.{Places, Sites, sites_of, AreLeft, CanSync, Is
 use Rattle.rec_files.specs.Succeeding.{AreApart, IsAsSeen}
 use Rattle.rec_files.specs.proving.Replacing.{IsPlacing, IsPlaced, HasFile, HasJournal, Either, Lasts, LastAs, Between, AreResolved, Moments, Persists, led, own_of}
 use Rattle.rec_files.specs.proving.Replacing.{AreSpared, AreSettled, IsPutForGood, AreAsSeen, BothWait, IsPut, IsReplacing, MayBegin, OnlyWhere, SparesBut, SparesButNew}
-use Rattle.rec_files.proofs.lemmas.Placing.{spares-placing, lasts_still, journal_placing, journal_placed, file_waits, file_placing, file_placed}
+use Rattle.rec_files.proofs.lemmas.Placing.{spares-placing, lasts_still, journal_placing, journal_placed, file_placing, file_placed}
 use Rattle.rec_files.proofs.lemmas.Steps.{longer_than, some_none}
 use Rattle.rec_files.proofs.lemmas.Holding.{read_there}
 
@@ -76,12 +76,6 @@ module _ (crash : Bool) (p : Places) where
       inr (lasts_still crash (Either (HasFile c.file) (HasFile file)) (HasJournal journal) p s t both.0 both.1 was)
 
 module _ (folder : List ℕ → List ℕ) (syncs : List ℕ → Bool) (p : Places) (journal : List ℕ) (file : Option (List ℕ)) where
-  -- nothing of the two was changed
-  pub moments_none : (o n : Option Story) → AtAnyMoment o n (Spares p.file) → AtAnyMoment o n (Spares p.journal) → Moments folder syncs p journal file o n
-  moments_none o n of_file of_journal crash c can told =
-      weaker_moments (LastAs crash p c.file c.journal) (Between crash p c journal file) o n (λ s was. old_between crash p c journal file s was)
-      (spared crash p (HasFile c.file) (HasJournal c.journal) o n told of_file of_journal)
-
   pub moments_untold : (n : Option Story) → n ≡ None → Moments folder syncs p journal file None n
   moments_untold n is crash c can told = subst (λ n. AtAnyMoment None n (λ s u. Between crash p c journal file u)) (sym is) tt
 
@@ -152,51 +146,11 @@ module _ (folder : List ℕ → List ℕ) (syncs : List ℕ → Bool) (sites : S
   none_told : (b : Option Story) → Spared None b → b ≡ None
   none_told b spares = let away = longer_than wj wf in untold (Spares (0 ∷ (wj ++ wf))) b (spares (0 ∷ (wj ++ wf)) away.0 away.1)
 
-  none_after : (w q : List ℕ) (b n : Option Story) → b ≡ None → AtAnyMoment b n (IsPlacing folder w q) → n ≡ None
-  none_after w q b n is placing = untold (IsPlacing folder w q) n (subst (λ b. AtAnyMoment b n (IsPlacing folder w q)) is placing)
-
-  abbrev pub Apart : Option Story → Type 0
-  Apart o = Told o (λ s. AreApart sites)
-
-  moments_spared : (file : Option (List ℕ)) (o n : Option Story) → Apart o → Spared o n → Moments folder syncs p journal file o n
-  moments_spared file None n apart spares = moments_untold folder syncs p journal file n (none_told n spares)
-  moments_spared file (Some a) n apart spares =
-      moments_none folder syncs p journal file (Some a) n (spares p.file apart.file_new_journal apart.file_new_file) (spares p.journal apart.journal_new_journal apart.journal_new_file)
-
   -- what held before is there, and the journal waits
   module _ (crash : Bool) (c : Contents) (a : Story) (b : Option Story) (apart : AreApart sites) (told : LastAs crash p c.file c.journal a.now)
       (spares : Spared (Some a) b) where
     abbrev Waiting : State → Type 0
     Waiting s = LastAs crash p c.file c.journal s × Waits s wj journal
-
-    ready_moments : AtAnyMoment (Some a) b (λ s u. LastAs crash p c.file c.journal u)
-    ready_moments =
-        spared crash p (HasFile c.file) (HasJournal c.journal) (Some a) b told (spares p.file apart.file_new_journal apart.file_new_file)
-        (spares p.journal apart.journal_new_journal apart.journal_new_file)
-
-    ready : Told b (λ t. Waits t wj journal) → Told b Waiting
-    ready waits =
-        told_both (LastAs crash p c.file c.journal) (λ t. Waits t wj journal) Waiting b (λ s last there. (last, there)) (told_from (LastAs crash p c.file c.journal) (Some a) b ready_moments) waits
-
-    until_journal : (file : Option (List ℕ)) (n : Option Story) → CanSync folder syncs crash p → Told b (λ t. Waits t wj journal) → AtAnyMoment b n (IsPlacing folder wj p.journal)
-        → AtAnyMoment (Some a) n (λ s u. Between crash p c journal file u)
-    until_journal file n can waits placing =
-        since_then (Between crash p c journal file) (Some a) b n
-        (weaker_moments (LastAs crash p c.file c.journal) (Between crash p c journal file) (Some a) b (λ s was. old_between crash p c journal file s was) ready_moments)
-        (moments_from (IsPlacing folder wj p.journal) Waiting (Between crash p c journal file) b n
-        (λ s u was step. at_journal_between crash p c journal file u (journal_placing folder syncs crash sites c journal [] apart can s u was.0 was.1 step)) (ready waits) placing)
-
-  moments_journal : (file : Option (List ℕ)) (o b n : Option Story) → Apart o → Spared o b → Told b (λ t. Waits t wj journal) → AtAnyMoment b n (IsPlacing folder wj p.journal)
-      → Moments folder syncs p journal file o n
-  moments_journal file None b n apart spares waits placing = moments_untold folder syncs p journal file n (none_after wj p.journal b n (none_told b spares) placing)
-  moments_journal file (Some a) b n apart spares waits placing = λ crash c can told. until_journal crash c a b apart told spares file n can waits placing
-
-  pub persists_journal : (o b n : Option Story) → Apart o → Spared o b → Told b (λ t. Waits t wj journal) → AtAnyMoment b n (IsPlacing folder wj p.journal)
-      → Ends b n (IsPlaced folder syncs wj p.journal) → Persists folder syncs p journal None o n
-  persists_journal None b n apart spares waits placing placed = persists_untold folder syncs p journal None n (none_after wj p.journal b n (none_told b spares) placing)
-  persists_journal (Some a) b n apart spares waits placing placed = λ crash c can told.
-      told_end (IsPlaced folder syncs wj p.journal) (Waiting crash c a b apart told spares) (LastAs crash p c.file journal) b n
-      (λ s t was end. journal_placed folder syncs crash sites c journal [] apart can s t was.0 was.1 end) (ready crash c a b apart told spares waits) placed
 
   module _ (file : List ℕ) where
     abbrev TwoWait : State → Type 0
@@ -208,112 +162,10 @@ module _ (folder : List ℕ → List ℕ) (syncs : List ℕ → Bool) (sites : S
       abbrev AtFile : State → Type 0
       AtFile t = LastAs crash p c.file journal t × Waits t wf file
 
-      abbrev BothReady : State → Type 0
-      BothReady s = Waiting crash c a b apart told spares s × Waits s wf file
-
-      both_ready : Told b BothReady
-      both_ready =
-          told_both (Waiting crash c a b apart told spares) (λ t. Waits t wf file) BothReady b (λ s one other. (one, other))
-          (ready crash c a b apart told spares (told_so TwoWait (λ t. Waits t wj journal) b (λ t two. two.journal) waits)) (told_so TwoWait (λ t. Waits t wf file) b (λ t two. two.file) waits)
-
-      at_file : Told m AtFile
-      at_file =
-          told_end (IsPlaced folder syncs wj p.journal) BothReady AtFile b m
-          (λ s t was end. (journal_placed folder syncs crash sites c journal file apart can s t was.0.0 was.0.1 end, file_waits folder syncs crash sites c journal file apart can s t was.1 end))
-          both_ready placed
-
-      both_moments_between : (n : Option Story) → AtAnyMoment b m (IsPlacing folder wj p.journal) → AtAnyMoment m n (IsPlacing folder wf p.file)
-          → AtAnyMoment (Some a) n (λ s u. Between crash p c journal (Some file) u)
-      both_moments_between n placing again =
-          since_then (Between crash p c journal (Some file)) (Some a) m n
-          (until_journal crash c a b apart told spares (Some file) m can (told_so TwoWait (λ t. Waits t wj journal) b (λ t two. two.journal) waits) placing)
-          (moments_from (IsPlacing folder wf p.file) AtFile (Between crash p c journal (Some file)) m n
-          (λ s u was step. inr (file_placing folder syncs crash sites c journal file apart can s u was.0 was.1 step)) at_file again)
-
-      both_last : (n : Option Story) → Ends m n (IsPlaced folder syncs wf p.file) → Told n (LastAs crash p file journal)
-      both_last n placed_too =
-          told_end (IsPlaced folder syncs wf p.file) AtFile (LastAs crash p file journal) m n
-          (λ s t was end. file_placed folder syncs crash sites c journal file apart can s t was.0 was.1 end) at_file placed_too
-
-    none_both : (b m n : Option Story) → Spared None b → AtAnyMoment b m (IsPlacing folder wj p.journal) → AtAnyMoment m n (IsPlacing folder wf p.file) → n ≡ None
-    none_both b m n spares placing again = none_after wf p.file m n (none_after wj p.journal b m (none_told b spares) placing) again
-
-    moments_both : (o b m n : Option Story) → Apart o → Spared o b → Told b TwoWait → AtAnyMoment b m (IsPlacing folder wj p.journal)
-        → Ends b m (IsPlaced folder syncs wj p.journal) → AtAnyMoment m n (IsPlacing folder wf p.file) → Moments folder syncs p journal (Some file) o n
-    moments_both None b m n apart spares waits placing placed again = moments_untold folder syncs p journal (Some file) n (none_both b m n spares placing again)
-    moments_both (Some a) b m n apart spares waits placing placed again = λ crash c can told. both_moments_between crash c a b m apart can told spares waits placed n placing again
-
-    pub persists_both : (o b m n : Option Story) → Apart o → Spared o b → Told b TwoWait → AtAnyMoment b m (IsPlacing folder wj p.journal)
-        → Ends b m (IsPlaced folder syncs wj p.journal) → AtAnyMoment m n (IsPlacing folder wf p.file) → Ends m n (IsPlaced folder syncs wf p.file)
-        → Persists folder syncs p journal (Some file) o n
-    persists_both None b m n apart spares waits placing placed again placed_too = persists_untold folder syncs p journal (Some file) n (none_both b m n spares placing again)
-    persists_both (Some a) b m n apart spares waits placing placed again placed_too = λ crash c can told. both_last crash c a b m apart can told spares waits placed n placed_too
-
 -- ---- what a replace does by the four places
-
-pub but_new : (sites : Sites) (o n : Option Story) → SparesBut sites.new_journal o n → SparesButNew sites o n
-but_new sites o n spares = λ q ne_j ne_f. spares q ne_j
 
 pub but_new_on : (sites : Sites) (o b n : Option Story) → SparesButNew sites o b → SparesButNew sites b n → SparesButNew sites o n
 but_new_on sites o b n first rest = λ q ne_j ne_f. spares_on q o b n (first q ne_j ne_f) (rest q ne_j ne_f)
-
--- what holds of no state in particular
-pub told_on : (P : Type 0) (sites : Sites) (o b : Option Story) → Told o (λ s. P) → SparesButNew sites o b → Told b (λ s. P)
-told_on P sites o b told spares =
-    let away = longer_than sites.new_journal sites.new_file in
-    let far = 0 ∷ (sites.new_journal ++ sites.new_file) in
-    told_kept (Spares far) (λ s. P) (λ s. P) o b (λ s t is same. is) told (spares far away.0 away.1)
-
-module _ (folder : List ℕ → List ℕ) (w q : List ℕ) (b n : Option Story) where
-  pub placing_spares : (r : List ℕ) → r ≢ w → r ≢ q → AtAnyMoment b n (IsPlacing folder w q) → AtAnyMoment b n (Spares r)
-  placing_spares r ne_w ne_q placing = moments_so (IsPlacing folder w q) (Spares r) b n (λ s u step. spares-placing folder w q s r u ne_w ne_q step) placing
-
-module _ (folder : List ℕ → List ℕ) (syncs : List ℕ → Bool) (sites : Sites) (journal : List ℕ) where
-  file_spared : (o n : Option Story) → Told o (λ s. AreApart sites) → SparesButNew sites o n → AtAnyMoment o n (Spares sites.file)
-  file_spared None n apart spares = subst (λ n. AtAnyMoment None n (Spares sites.file)) (sym (none_told folder syncs sites journal n spares)) tt
-  file_spared (Some a) n apart spares = spares sites.file apart.file_new_journal apart.file_new_file
-
-  file_apart : (o b n : Option Story) → Told o (λ s. AreApart sites) → SparesButNew sites o b → AtAnyMoment b n (IsPlacing folder sites.new_journal sites.journal)
-      → AtAnyMoment o n (Spares sites.file)
-  file_apart None b n apart spares placing =
-      subst (λ n. AtAnyMoment None n (Spares sites.file)) (sym (none_after folder syncs sites journal sites.new_journal sites.journal b n (none_told folder syncs sites journal b spares) placing)) tt
-  file_apart (Some a) b n apart spares placing =
-      spares_on sites.file (Some a) b n (file_spared (Some a) b apart spares)
-      (placing_spares folder sites.new_journal sites.journal b n sites.file apart.file_new_journal (λ e. apart.pair (sym e)) placing)
-
-  -- nothing was put in place
-  pub replacing_spared : (file : Option (List ℕ)) (o n : Option Story) → Told o (λ s. AreApart sites) → SparesButNew sites o n → IsReplacing folder syncs sites journal file o n
-  replacing_spared file o n apart spares = record {
-    moments = moments_spared folder syncs sites journal file o n apart spares;
-    alone = λ none. file_spared o n apart spares;
-    strangers = λ r ne_file ne_journal ne_new_file ne_new_journal. spares r ne_new_journal ne_new_file;
-  }
-
-  module _ (o b : Option Story) (apart : Told o (λ s. AreApart sites)) (spares : SparesButNew sites o b) where
-    to_journal : (n : Option Story) → AtAnyMoment b n (IsPlacing folder sites.new_journal sites.journal) → SparesStrangers sites o n
-    to_journal n placing = λ r ne_file ne_journal ne_new_file ne_new_journal.
-        spares_on r o b n (spares r ne_new_journal ne_new_file) (placing_spares folder sites.new_journal sites.journal b n r ne_new_journal ne_journal placing)
-
-    -- the journal was, maybe
-    pub replacing_journal : (file : Option (List ℕ)) (n : Option Story) → Told b (λ t. Waits t sites.new_journal journal)
-        → AtAnyMoment b n (IsPlacing folder sites.new_journal sites.journal) → IsReplacing folder syncs sites journal file o n
-    replacing_journal file n waits placing =
-        record { moments = moments_journal folder syncs sites journal file o b n apart spares waits placing; alone = λ none. file_apart o b n apart spares placing; strangers = to_journal n placing }
-
-    -- and the file
-    pub replacing_both : (file : List ℕ) (m n : Option Story) → Told b (BothWait sites journal file) → AtAnyMoment b m (IsPlacing folder sites.new_journal sites.journal)
-        → Ends b m (IsPlaced folder syncs sites.new_journal sites.journal) → AtAnyMoment m n (IsPlacing folder sites.new_file sites.file)
-        → IsReplacing folder syncs sites journal (Some file) o n
-    replacing_both file m n waits placing placed again = record {
-      moments = moments_both folder syncs sites journal file o b m n apart spares waits placing placed again;
-      alone = λ none. absurd (some_none file none);
-      strangers = λ r ne_file ne_journal ne_new_file ne_new_journal.
-          spares_on r o m n (to_journal m placing r ne_file ne_journal ne_new_file ne_new_journal)
-          (placing_spares folder sites.new_file sites.file m n r ne_new_file ne_file again);
-    }
-
-pub one_waits : (sites : Sites) (journal file : List ℕ) (b : Option Story) → Told b (BothWait sites journal file) → Told b (λ t. Waits t sites.new_journal journal)
-one_waits sites journal file b waits = told_so (BothWait sites journal file) (λ t. Waits t sites.new_journal journal) b (λ t two. two.journal) waits
 
 pub spares_none : (sites : Sites) (o n : Option Story) → n ≡ o → SparesButNew sites o n
 spares_none sites o n same = λ r ne_j ne_f. spares_still r o n same
@@ -343,28 +195,6 @@ module _ (place leads : List ℕ → List ℕ) (given_file given_journal path_fi
       → OnlyWhere (MayBegin place leads given_file given_journal path_file path_journal file_seen journal_seen) o n
   only_begins o n (inl same) apart resolved seen = inl same
   only_begins o n (inr left) apart resolved seen = inr (may_begin o left apart resolved seen)
-
-  pub begun_seen : (o : Option Story) → Told o (MayBegin place leads given_file given_journal path_file path_journal file_seen journal_seen)
-      → Told o (AreAsSeen (led leads given_file given_journal) file_seen journal_seen)
-  begun_seen o begins =
-      told_so (MayBegin place leads given_file given_journal path_file path_journal file_seen journal_seen) (AreAsSeen (led leads given_file given_journal) file_seen journal_seen) o
-      (λ s may. may.seen) begins
-
-  pub only_seen : (o n : Option Story) → OnlyWhere (MayBegin place leads given_file given_journal path_file path_journal file_seen journal_seen) o n
-      → OnlyWhere (AreAsSeen (led leads given_file given_journal) file_seen journal_seen) o n
-  only_seen o n (inl same) = inl same
-  only_seen o n (inr begins) = inr (begun_seen o begins)
-
-  pub begun_resolved : (o : Option Story) → Told o (MayBegin place leads given_file given_journal path_file path_journal file_seen journal_seen)
-      → Told o (λ s. AreResolved place leads given_file given_journal path_file path_journal)
-  begun_resolved o begins =
-      told_so (MayBegin place leads given_file given_journal path_file path_journal file_seen journal_seen) (λ s. AreResolved place leads given_file given_journal path_file path_journal) o
-      (λ s may. may.resolved) begins
-
-  pub only_resolved : (o n : Option Story) → OnlyWhere (MayBegin place leads given_file given_journal path_file path_journal file_seen journal_seen) o n
-      → OnlyWhere (λ s. AreResolved place leads given_file given_journal path_file path_journal) o n
-  only_resolved o n (inl same) = inl same
-  only_resolved o n (inr begins) = inr (begun_resolved o begins)
 
 -- ---- where nothing was changed before
 

@@ -49,9 +49,6 @@ told_after R P Q None n so told all = absurd told
 told_after R P Q (Some a) None so told all = all
 told_after R P Q (Some a) (Some b) so told all = so a.now b.now told all.0
 
-pub still_told : (w : List ℕ) (P : State → Type 0) (o n : Option Story) → IsTold o P → SparesBut w o n → IsTold n (λ s. Unit {0})
-still_told w P o n told spares = told_after (Spares (0 ∷ w)) P (λ s. Unit {0}) o n (λ s t was same. tt) told (spares (0 ∷ w) (longer 0 w))
-
 pub spared_told : (P : State → Type 0) (o n : Option Story) → IsTold o P → ((p : List ℕ) → AtAnyMoment o n (Spares p)) → IsTold n (λ s. Unit {0})
 spared_told P o n told spares = told_after (Spares []) P (λ s. Unit {0}) o n (λ s t was same. tt) told (spares [])
 
@@ -61,14 +58,6 @@ pub there_still : {X : Type 0} (number : X → ℕ) (found : Option X) (one : X)
 there_still number found one w o n is told spares =
     told_after (Spares w) (λ s. s.at w ≡ option_map number found) (λ s. IsSome (s.at w)) o n
     (λ s t was same. subst IsSome (sym (same.at ∙ was ∙ ap (option_map number) is)) refl) told spares
-
--- a file that was just made is one's own
-pub made_own : (w v : List ℕ) (n : ℕ) (own : Bool) (P : State → Type 0) (o b : Option Story) → v ≡ w → own ≡ false → IsTold o P → SparesBut w o b → Told b (λ t. t.at w ≡ Some n)
-    → Told b (λ t. t.held n ≡ false) → Told b (λ t. IsTrue own ↔ IsFreeAt v n t) → ⊥
-made_own w v n own P None b same isnt told spares at free owned = told
-made_own w v n own P (Some a) None same isnt told spares at free owned = spares (0 ∷ w) (longer 0 w)
-made_own w v n own P (Some a) (Some b) same isnt told spares at free owned =
-    false≢true (sym isnt ∙ owned.1 (record { at = ap b.now.at same ∙ at; free = free }))
 
 pub told_there : (P : State → Type 0) (o b : Option Story) → b ≡ o → IsTold o P → IsTold b (λ s. Unit {0})
 told_there P o b same told = subst (λ b. IsTold b (λ s. Unit {0})) (sym same) (still_so P (λ s. Unit {0}) o (λ s is. tt) told)
@@ -215,12 +204,6 @@ module _ (sites : Sites) where
       (λ none. record { journal = none; file = (spares_j sites.new_file (λ e. apart.new_pair (sym e))).0.at ∙ clear_f at_f })
       (clear_j ((spares_f sites.new_journal apart.new_pair).0.at ∙ at_j))
 
-  pub file_free : (o m : Option Story) → IsTold o (λ s. AreApart sites × AreFree sites s) → SparesBut sites.new_journal o m → IsTold m (λ s. s.at sites.new_file ≡ None)
-  file_free None m given spares = absurd given
-  file_free (Some a) m given spares =
-      told_after (Spares sites.new_file) (λ s. s.at sites.new_file ≡ None) (λ s. s.at sites.new_file ≡ None) (Some a) m (λ s t was is. is.at ∙ was) given.1.file
-      (spares sites.new_file (λ e. given.0.new_pair (sym e)))
-
 -- ---- what was seen is seen still where its place is spared
 
 pub seen_still : (p : List ℕ) (look : Option (Option Look)) (s t : State) → Spares p s t → HasSeen p look s → HasSeen p look t
@@ -255,14 +238,14 @@ unchanged_on place leads link regular given_file given_journal file journal (Som
       is_regular = was.is_regular;
     }
 
-pub settle_on : (place leads : List ℕ → List ℕ) (link : List ℕ → Option (List ℕ)) (regular : ℕ → Bool) (given_file given_journal : List ℕ) (file journal : Known) (o n : Option Story)
-    → IsTold o (CanPrepare place leads link regular given_file given_journal file journal) → SparesButNew (sites_of place file.path journal.path) o n
+pub settle_on : (place leads : List ℕ → List ℕ) (link : List ℕ → Option (List ℕ)) (regular : ℕ → Bool) (given_file given_journal : List ℕ) (file journal : Known) (L : Type 0)
+    (o n : Option Story) → IsTold o (λ s. L × CanPrepare place leads link regular given_file given_journal file journal s) → SparesButNew (sites_of place file.path journal.path) o n
     → IsTold n (λ s. CanSettle place regular file s × CanSettle place regular journal s)
-settle_on place leads link regular given_file given_journal file journal None n given spares = absurd given
-settle_on place leads link regular given_file given_journal file journal (Some a) n given spares =
+settle_on place leads link regular given_file given_journal file journal L None n given spares = absurd given
+settle_on place leads link regular given_file given_journal file journal L (Some a) n given spares =
     still_so (AreUnchanged place leads regular file journal) (λ s. CanSettle place regular file s × CanSettle place regular journal s) n
-    (λ s was. (record { at = was.file_stands.at; is_regular = given.is_regular }, record { at = was.journal_stands.at; is_regular = was.is_regular }))
-    (unchanged_on place leads link regular given_file given_journal file journal (Some a) n given spares)
+    (λ s was. (record { at = was.file_stands.at; is_regular = given.1.is_regular }, record { at = was.journal_stands.at; is_regular = was.is_regular }))
+    (unchanged_on place leads link regular given_file given_journal file journal (Some a) n given.1 spares)
 
 pub free_on : (sites : Sites) (o n : Option Story) → Told o (AreFree sites) → ((p : List ℕ) → AtAnyMoment o n (Spares p)) → Told n (AreFree sites)
 free_on sites o n free spares =
@@ -276,36 +259,8 @@ pub told_fact : (P : Type 0) (o : Option Story) → IsTold o (λ s. P) → P
 told_fact P None told = absurd told
 told_fact P (Some a) told = told
 
--- the file is a regular one where a put may begin
-pub saw_regular : (place leads : List ℕ → List ℕ) (link : List ℕ → Option (List ℕ)) (regular : ℕ → Bool) (given_file given_journal : List ℕ) (file journal : Known) (o : Option Story)
-    → IsTold o (CanPrepare place leads link regular given_file given_journal file journal) → SawRegular regular file.look
-saw_regular place leads link regular given_file given_journal file journal o given =
-    told_fact (SawRegular regular file.look) o
-    (still_so (CanPrepare place leads link regular given_file given_journal file journal) (λ s. SawRegular regular file.look) o (λ s can. can.is_regular) given)
-
-pub with_unit : (P : State → Type 0) (o : Option Story) → IsTold o P → IsTold o (λ s. Unit {0} × P s)
-with_unit P o told = still_so P (λ s. Unit {0} × P s) o (λ s is. (tt, is)) told
-
-pub without_unit : (P : State → Type 0) (o : Option Story) → IsTold o (λ s. Unit {0} × P s) → IsTold o P
-without_unit P o told = still_so (λ s. Unit {0} × P s) P o (λ s is. is.1) told
-
-pub told_of : (P : State → Type 0) (o : Option Story) → IsTold o P → Told o P
-told_of P None told = absurd told
-told_of P (Some a) told = told
-
-pub told_pair : (P Q : State → Type 0) (o : Option Story) → IsTold o P → IsTold o Q → IsTold o (λ s. P s × Q s)
-told_pair P Q None one other = one
-told_pair P Q (Some a) one other = (one, other)
-
 pub same_told : (P : State → Type 0) (o b : Option Story) → b ≡ o → IsTold o P → IsTold b P
 same_told P o b same told = subst (λ b. IsTold b P) (sym same) told
-
--- bytes are written
-pub unmoved_told : (P : State → Type 0) (o n : Option Story) → IsTold o P → AtAnyMoment o n IsUnmoved → IsTold n (λ s. Unit {0})
-unmoved_told P o n told unmoved = told_after IsUnmoved P (λ s. Unit {0}) o n (λ s t was moved. tt) told unmoved
-
-unmoved_at : (w : List ℕ) (s t : State) → IsUnmoved s t → t.at w ≡ s.at w
-unmoved_at w s t moved = ap (λ (at : List ℕ → Option ℕ). at w) moved.at
 
 module _ (place leads : List ℕ → List ℕ) (file journal : Known) where
   abbrev Sites4 : Sites
@@ -332,105 +287,6 @@ module _ (place leads : List ℕ → List ℕ) (file journal : Known) where
       told_with (AreUnchanged place leads regular file journal) (AreFree Sites4) (λ s. L × Replaces s) b
       (λ s was none. (given.0, record { apart = given.1.clear.apart; free = none; file_stands = was.file_stands; journal_stands = was.journal_stands }))
       (unchanged_on place leads link regular given_file given_journal file journal (Some a) b given.1 spares) free
-
-  module _ (L : Type 0) (o : Option Story) (given : IsTold o (λ s. L × Replaces s)) where
-    pub apart_told : IsTold o (λ s. AreApart Sites4)
-    apart_told = still_so (λ s. L × Replaces s) (λ s. AreApart Sites4) o (λ s can. can.1.apart) given
-
-    pub apart_there : Told o (λ s. AreApart Sites4)
-    apart_there = told_of (λ s. AreApart Sites4) o apart_told
-
-  module _ (L : Type 0) (o b : Option Story) (given : IsTold o (λ s. L × Replaces s)) where
-    stand_both : SparesButNew Sites4 o b → IsTold b (λ t. L × (AreApart Sites4 × (StandsAsSeen place leads file t × StandsAsSeen place leads journal t)))
-    stand_both spares =
-        elim o as (λ o. IsTold o (λ s. L × Replaces s) → SparesButNew Sites4 o b → IsTold b (λ t. L × (AreApart Sites4 × (StandsAsSeen place leads file t × StandsAsSeen place leads journal t)))) [
-          | None ↦ λ given. λ spares. absurd given
-          | Some a ↦ λ given. λ spares.
-              told_pair (λ t. L) (λ t. AreApart Sites4 × (StandsAsSeen place leads file t × StandsAsSeen place leads journal t)) b
-              (told_after (Spares (place file.path)) (λ s. L × Replaces s) (λ t. L) (Some a) b (λ s t was same. was.0) given
-              (spares (place file.path) given.1.apart.file_new_journal given.1.apart.file_new_file))
-              (told_pair (λ t. AreApart Sites4) (λ t. StandsAsSeen place leads file t × StandsAsSeen place leads journal t) b
-              (told_after (Spares (place file.path)) (λ s. L × Replaces s) (λ t. AreApart Sites4) (Some a) b (λ s t was same. was.1.apart) given
-              (spares (place file.path) given.1.apart.file_new_journal given.1.apart.file_new_file))
-              (told_pair (StandsAsSeen place leads file) (StandsAsSeen place leads journal) b
-              (told_after (Spares (place file.path)) (λ s. L × Replaces s) (StandsAsSeen place leads file) (Some a) b (λ s t was same. stands_still place leads file s t same was.1.file_stands) given
-              (spares (place file.path) given.1.apart.file_new_journal given.1.apart.file_new_file))
-              (told_after (Spares (place journal.path)) (λ s. L × Replaces s) (StandsAsSeen place leads journal) (Some a) b
-              (λ s t was same. stands_still place leads journal s t same was.1.journal_stands) given
-              (spares (place journal.path) given.1.apart.journal_new_journal given.1.apart.journal_new_file))))
-        ] given spares
-
-    pub place_from : (new_file new_journal : ℕ) → SparesButNew Sites4 o b → Told b (AreMade Sites4 new_journal new_file) → IsTold b (λ s. L × CanPlace place leads file journal new_file new_journal s)
-    place_from new_file new_journal spares made =
-        told_with (λ t. L × (AreApart Sites4 × (StandsAsSeen place leads file t × StandsAsSeen place leads journal t))) (AreMade Sites4 new_journal new_file)
-        (λ s. L × CanPlace place leads file journal new_file new_journal s) b
-        (λ s was made. (was.0, record { apart = was.1.0; made = made; file_stands = was.1.1.0; journal_stands = was.1.1.1 })) (stand_both spares) made
-
-    pub place_journal_from : (new : ℕ) → SparesButNew Sites4 o b → Told b (IsMadeAt Sites4.new_journal new) → IsTold b (CanPlaceJournal place leads file journal new)
-    place_journal_from new spares made =
-        told_with (λ t. L × (AreApart Sites4 × (StandsAsSeen place leads file t × StandsAsSeen place leads journal t))) (IsMadeAt Sites4.new_journal new)
-        (CanPlaceJournal place leads file journal new) b
-        (λ s was made. record { apart = was.1.0; made = made; file_stands = was.1.1.0; journal_stands = was.1.1.1 }) (stand_both spares) made
-
-  pub made_there : (new_file new_journal : ℕ) (L : Type 0) (o : Option Story) → IsTold o (λ s. L × CanPlace place leads file journal new_file new_journal s)
-      → Told o (AreMade Sites4 new_journal new_file)
-  made_there new_file new_journal L o given =
-      told_so (λ s. L × CanPlace place leads file journal new_file new_journal s) (AreMade Sites4 new_journal new_file) o (λ s can. can.1.made)
-      (told_of (λ s. L × CanPlace place leads file journal new_file new_journal s) o given)
-
-  module _ (new_file new_journal : ℕ) (L : Type 0) (o b : Option Story) (given : IsTold o (λ s. L × CanPlace place leads file journal new_file new_journal s)) where
-    abbrev Places2 : State → Type 0
-    Places2 s = L × CanPlace place leads file journal new_file new_journal s
-
-    -- where nothing was moved but bytes were written
-    pub file_at : AtAnyMoment o b IsUnmoved → SparesButNew Sites4 o b
-        → IsTold b (λ s. (s.at Sites4.new_file ≡ Some new_file) × StandsAsSeen place leads file s)
-    file_at unmoved spares =
-        elim o as (λ o. IsTold o Places2 → AtAnyMoment o b IsUnmoved → SparesButNew Sites4 o b → IsTold b (λ s. (s.at Sites4.new_file ≡ Some new_file) × StandsAsSeen place leads file s)) [
-          | None ↦ λ given. λ unmoved. λ spares. absurd given
-          | Some a ↦ λ given. λ unmoved. λ spares.
-              told_pair (λ s. s.at Sites4.new_file ≡ Some new_file) (StandsAsSeen place leads file) b
-              (told_after IsUnmoved Places2 (λ s. s.at Sites4.new_file ≡ Some new_file) (Some a) b (λ s t was moved. unmoved_at Sites4.new_file s t moved ∙ was.1.made.file.at) given unmoved)
-              (told_after (Spares (place file.path)) Places2 (StandsAsSeen place leads file) (Some a) b (λ s t was same. stands_still place leads file s t same was.1.file_stands) given
-              (spares (place file.path) given.1.apart.file_new_journal given.1.apart.file_new_file))
-        ] given unmoved spares
-
-    pub journal_at : AtAnyMoment o b IsUnmoved → SparesButNew Sites4 o b
-        → IsTold b (λ s. (s.at Sites4.new_journal ≡ Some new_journal) × StandsAsSeen place leads journal s)
-    journal_at unmoved spares =
-        elim o as (λ o. IsTold o Places2 → AtAnyMoment o b IsUnmoved → SparesButNew Sites4 o b → IsTold b (λ s. (s.at Sites4.new_journal ≡ Some new_journal) × StandsAsSeen place leads journal s)) [
-          | None ↦ λ given. λ unmoved. λ spares. absurd given
-          | Some a ↦ λ given. λ unmoved. λ spares.
-              told_pair (λ s. s.at Sites4.new_journal ≡ Some new_journal) (StandsAsSeen place leads journal) b
-              (told_after IsUnmoved Places2 (λ s. s.at Sites4.new_journal ≡ Some new_journal) (Some a) b (λ s t was moved. unmoved_at Sites4.new_journal s t moved ∙ was.1.made.journal) given unmoved)
-              (told_after (Spares (place journal.path)) Places2 (StandsAsSeen place leads journal) (Some a) b (λ s t was same. stands_still place leads journal s t same was.1.journal_stands) given
-              (spares (place journal.path) given.1.apart.journal_new_journal given.1.apart.journal_new_file))
-        ] given unmoved spares
-
-    -- the file stays while the journal is put in place
-    pub file_stays : (c : Option Story) → AtAnyMoment o b IsUnmoved → SparesButNew Sites4 o b → AtAnyMoment b c (Spares Sites4.new_file) → AtAnyMoment b c (Spares (place file.path))
-        → IsTold c (λ s. (s.at Sites4.new_file ≡ Some new_file) × StandsAsSeen place leads file s)
-    file_stays c unmoved spares of_new of_file =
-        told_pair (λ s. s.at Sites4.new_file ≡ Some new_file) (StandsAsSeen place leads file) c
-        (told_after (Spares Sites4.new_file) (λ s. (s.at Sites4.new_file ≡ Some new_file) × StandsAsSeen place leads file s) (λ s. s.at Sites4.new_file ≡ Some new_file) b c
-        (λ s t was same. same.at ∙ was.0) (file_at unmoved spares) of_new)
-        (told_after (Spares (place file.path)) (λ s. (s.at Sites4.new_file ≡ Some new_file) × StandsAsSeen place leads file s) (StandsAsSeen place leads file) b c
-        (λ s t was same. stands_still place leads file s t same was.1) (file_at unmoved spares) of_file)
-
-  module _ (new : ℕ) (o b : Option Story) (given : IsTold o (CanPlaceJournal place leads file journal new)) where
-    pub file_spared : AtAnyMoment o b (Spares (place file.path)) → IsTold b (StandsAsSeen place leads file)
-    file_spared spares =
-        told_after (Spares (place file.path)) (CanPlaceJournal place leads file journal new) (StandsAsSeen place leads file) o b
-        (λ s t was same. stands_still place leads file s t same was.file_stands) given spares
-
-    pub journal_alone : AtAnyMoment o b IsUnmoved → AtAnyMoment o b (Spares (place journal.path))
-        → IsTold b (λ s. (s.at Sites4.new_journal ≡ Some new) × StandsAsSeen place leads journal s)
-    journal_alone unmoved spares =
-        told_pair (λ s. s.at Sites4.new_journal ≡ Some new) (StandsAsSeen place leads journal) b
-        (told_after IsUnmoved (CanPlaceJournal place leads file journal new) (λ s. s.at Sites4.new_journal ≡ Some new) o b
-        (λ s t was moved. unmoved_at Sites4.new_journal s t moved ∙ was.made.at) given unmoved)
-        (told_after (Spares (place journal.path)) (CanPlaceJournal place leads file journal new) (StandsAsSeen place leads journal) o b
-        (λ s t was same. stands_still place leads journal s t same was.journal_stands) given spares)
 
 -- ---- what can be read
 

@@ -413,12 +413,6 @@ own_making crash w s u was (inr (n, fresh, is)) x may =
       ]
     ]
 
-pub own_none : (crash : Bool) (w : List ℕ) (own : Option ℕ) (s : State) → IsOwn crash w None s → IsOwn crash w own s
-own_none crash w own s was x may = elim (was x may) [
-  | inl none ↦ inl none
-  | inr none ↦ inl none
-]
-
 pub own_now : (crash : Bool) (w : List ℕ) (own : Option ℕ) (s : State) → IsOwn crash w own s → IsOwnNow w own s
 own_now crash w own s was = was (s.at w) (inl refl)
 

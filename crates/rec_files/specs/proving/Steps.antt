@@ -1,0 +1,214 @@
+-- The steps in which a file and its journal are replaced, what each does to a disk, and what it needs.
+use Rattle.std.specs.Prelude.{◌≡◌, ◌≢◌, ◌⊎◌, ◌≤◌, ℕ, Bool, true, false, List, [], ◌∷◌, length, take, Option, Some, None}
+use Rattle.std.specs.Prelude.{IfSome, IsSome, IsSomeAnd, option_map}
+use Rattle.rec_disk.specs.Disk.{State, Story, Look as DiskLook, next, IsFresh, made, wrote, synced, renamed, removed}
+use Rattle.rec_disk.specs.Paths.{working_name}
+use Rattle.rec_tools.specs.declared.home.Which.{Which}
+use Rattle.rec_tools.specs.declared.home.Which.TheVariants.{Base, Journal}
+use Rattle.rec_files.specs.declared.steps.Act.{Act}
+use Rattle.rec_files.specs.declared.steps.Act.TheVariants.{Make, Part, Fit, Measure, Look, Write, Keep, Place, Sync}
+use Rattle.rec_files.specs.declared.steps.Act.TheVariants.{SyncLast, Settle, Remove}
+use Rattle.rec_files.specs.declared.steps.Step.{Step}
+use Rattle.rec_files.specs.declared.steps.Made.{Made}
+use Rattle.rec_files.specs.declared.target.Target.{Target}
+use Rattle.rec_files.specs.Succeeding.{Known, known, StandsAsSeen}
+use Rattle.rec_files.specs.proving.Replacing.{IsSyncing}
+use Rattle.rec_files.specs.proving.Succeeding.{CanSettle}
+
+-- the folders of a disk, where its paths lead, and which files are regular ones
+pub record Ways : Type 0 where
+  pub place : List ℕ → List ℕ
+  pub leads : List ℕ → List ℕ
+  pub folder : List ℕ → List ℕ
+  pub syncs : List ℕ → Bool
+  pub regular : ℕ → Bool
+
+-- one of the two, the other one, and what is put in its place
+pub record Side : Type 0 where
+  pub own : Known
+  pub other : Known
+  pub bytes : List ℕ
+
+-- both
+pub record Task : Type 0 where
+  pub file : Known
+  pub journal : Known
+  pub file_bytes : List ℕ
+  pub journal_bytes : List ℕ
+
+abbrev pub side_of : Task → Which → Side
+side_of task Base = record { own = task.file; other = task.journal; bytes = task.file_bytes }
+side_of task Journal = record { own = task.journal; other = task.file; bytes = task.journal_bytes }
+
+abbrev pub ways_of : (List ℕ → List ℕ) → (List ℕ → List ℕ) → (List ℕ → List ℕ) → (List ℕ → Bool) → (ℕ → Bool) → Ways
+ways_of place leads folder syncs regular =
+    record { place = place; leads = leads; folder = folder; syncs = syncs; regular = regular }
+
+abbrev pub side_by : {D F S : Type 0} → (F → ℕ) → (S → Option DiskLook) → Target D F S → Target D F S → List ℕ → Side
+side_by number tells own other bytes =
+    record { own = known number tells own; other = known number tells other; bytes = bytes }
+
+abbrev pub task_of : {D F S : Type 0} → (F → ℕ) → (S → Option DiskLook) → Target D F S → Target D F S → List ℕ → List ℕ
+    → Task
+task_of number tells file journal file_bytes journal_bytes = record {
+  file = known number tells file;
+  journal = known number tells journal;
+  file_bytes = file_bytes;
+  journal_bytes = journal_bytes;
+}
+
+-- the numbers of what was made for both
+pub record Numbers : Type 0 where
+  pub file : Option ℕ
+  pub journal : Option ℕ
+
+abbrev pub numbers : {D F S : Type 0} → (F → ℕ) → Made D F S → Numbers
+numbers number made = record { file = option_map number made.file; journal = option_map number made.journal }
+
+abbrev pub number_of : Numbers → Which → Option ℕ
+number_of numbers Base = numbers.file
+number_of numbers Journal = numbers.journal
+
+abbrev pub other_than : Which → Which
+other_than Base = Journal
+other_than Journal = Base
+
+-- a story goes on by one step, or stays as it is
+abbrev pub Moves : Option Story → Option Story → (State → Type 0) → (State → State → Type 0) → Type 0
+Moves None None Rests Does = Unit {0}
+Moves None (Some b) Rests Does = ⊥
+Moves (Some a) new Rests Does = (Rests a.now × (new ≡ Some a)) ⊎ ((t : State) × Does a.now t × (new ≡ Some (next a t)))
+
+-- ---- single acts
+
+module _ (ways : Ways) (side : Side) where
+  abbrev pub at_of : List ℕ
+  at_of = ways.place side.own.path
+
+  abbrev pub new_of : List ℕ
+  new_of = ways.place (working_name side.own.path)
+
+  -- by the number of what was made for it, and whether it succeeded: nothing is done on the disk
+  abbrev pub Rests : Act → Bool → Option ℕ → State → Type 0
+  Rests Part ok x s = ok ≡ true → ways.folder at_of ≡ ways.folder (ways.place side.other.path)
+  Rests Fit ok x s = Unit {0}
+  Rests Measure ok x s = Unit {0}
+  Rests Look ok x s = Unit {0}
+  Rests Settle ok x s = ok ≡ true → s.at at_of ≡ None
+  Rests Remove ok x s = ok ≡ true → IfSome x (λ n. s.at new_of ≢ Some n)
+  Rests _ ok x s = ok ≡ false
+
+  -- by that before and after: one state comes after another
+  abbrev pub Does : Act → Bool → Option ℕ → Option ℕ → State → State → Type 0
+  Does Make ok x y s t = (n : ℕ) × (s.at new_of ≡ None) × IsFresh s n × (t ≡ made s new_of n) × (y ≡ Some n)
+  Does Part ok x y s t = (y ≡ x) × IsSyncing ways.folder ways.syncs (ways.folder at_of) s t
+  Does Write ok x y s t = (y ≡ x) × IsSomeAnd x (λ n. (k : ℕ) × (t ≡ wrote s n (take k side.bytes))
+      × (ok ≡ true → take k side.bytes ≡ side.bytes))
+  Does Keep ok x y s t = (y ≡ x) × IsSomeAnd x (λ n. t ≡ synced s n)
+  Does Settle ok x y s t = (y ≡ x) × ((n : ℕ) × (t ≡ synced s n) × (ok ≡ true → s.at at_of ≡ Some n))
+  Does Place ok x y s t = (y ≡ x) × (t ≡ renamed s new_of at_of)
+  Does Sync ok x y s t = (y ≡ x) × IsSyncing ways.folder ways.syncs (ways.folder at_of) s t
+  Does SyncLast ok x y s t = (y ≡ x) × IsSyncing ways.folder ways.syncs (ways.folder at_of) s t
+  Does Remove ok x y s t = (y ≡ x) × (t ≡ removed s new_of)
+  Does _ ok x y s t = ⊥
+
+  abbrev pub Acts : Act → Bool → Option ℕ → Option ℕ → Option Story → Option Story → Type 0
+  Acts act ok x y old new = Moves old new (λ s. (y ≡ x) × Rests act ok x s) (Does act ok x y)
+
+  -- what was made stands under its working name, and what was read in its place
+  abbrev pub CanPlace : ℕ → State → Type 0
+  CanPlace n s = (s.at new_of ≡ Some n) × StandsAsSeen ways.place ways.leads side.own s
+
+  -- what an act needs, to succeed on a disk that works
+  abbrev pub Needs : Act → Option ℕ → State → Type 0
+  Needs Make x s = s.at new_of ≡ None
+  Needs Fit x s = IsSomeAnd x (λ n. s.at (ways.place side.other.path) ≢ Some n)
+  Needs Measure x s = length side.bytes ≤ 1_073_741_824
+  Needs Look x s = IfSome x (λ n. s.at new_of ≡ Some n) × StandsAsSeen ways.place ways.leads side.own s
+  Needs Write x s = IsSome x
+  Needs Keep x s = IsSome x
+  Needs Place x s = IsSomeAnd x (λ n. CanPlace n s)
+  Needs Settle x s = CanSettle ways.place ways.regular side.own s
+  Needs Remove x s = ⊥
+  Needs _ x s = Unit {0}
+
+-- what it checks of the bytes alone
+abbrev pub Fits : Act → List ℕ → Type 0
+Fits Measure bytes = length bytes ≤ 1_073_741_824
+Fits _ bytes = Unit {0}
+
+-- ---- lists of steps
+
+module _ (ways : Ways) (task : Task) where
+  abbrev pub StepRests : Step → Bool → Numbers → Numbers → State → Type 0
+  StepRests step ok x y s = (y ≡ x) × Rests ways (side_of task step.0) step.1 ok (number_of x step.0) s
+
+  abbrev pub StepDoes : Step → Bool → Numbers → Numbers → State → State → Type 0
+  StepDoes step ok x y s t = (number_of y (other_than step.0) ≡ number_of x (other_than step.0))
+      × Does ways (side_of task step.0) step.1 ok (number_of x step.0) (number_of y step.0) s t
+
+  abbrev pub Takes : Step → Bool → Numbers → Numbers → Option Story → Option Story → Type 0
+  Takes step ok x y old new = Moves old new (StepRests step ok x y) (StepDoes step ok x y)
+
+  -- the steps are taken in turn, up to the first that fails
+  abbrev pub Plays : List Step → Bool → Numbers → Numbers → Option Story → Option Story → Type 0
+  Plays [] ok x y old new = (ok ≡ true) × (y ≡ x) × (new ≡ old)
+  Plays (step ∷ steps) ok x y old new = ((ok ≡ false) × Takes step false x y old new)
+      ⊎ ((mid : Option Story) × (z : Numbers) × Takes step true x z old mid × Plays steps ok z y mid new)
+
+  abbrev pub StepNeeds : Step → Numbers → State → Type 0
+  StepNeeds step x s = Needs ways (side_of task step.0) step.1 (number_of x step.0) s
+
+  -- each finds what it needs
+  abbrev pub CanPlay : List Step → Numbers → State → Type 0
+  CanPlay [] x s = Unit {0}
+  CanPlay (step ∷ steps) x s = StepNeeds step x s
+      × (((y : Numbers) → StepRests step true x y s → CanPlay steps y s)
+      × ((y : Numbers) (t : State) → StepDoes step true x y s t → CanPlay steps y t))
+
+abbrev pub StepFits : Task → Step → Type 0
+StepFits task step = Fits step.1 (side_of task step.0).bytes
+
+-- ---- the lists
+
+abbrev pub of_file : Act → Step
+of_file act = record { 0 = Base; 1 = act }
+
+abbrev pub of_journal : Act → Step
+of_journal act = record { 0 = Journal; 1 = act }
+
+-- both are synced as they were read, and their folders
+abbrev pub settling : List Step
+settling = of_file Settle ∷ of_file Sync ∷ of_journal Settle ∷ of_journal Sync ∷ []
+
+-- both are made, then written, and then put in place, the journal first
+abbrev pub both_placed : List Step
+both_placed = of_journal Place ∷ of_journal Sync ∷ of_file Place ∷ of_file SyncLast ∷ []
+
+abbrev pub file_written : List Step
+file_written = of_file Write ∷ of_file Keep ∷ of_file Look ∷ both_placed
+
+abbrev pub both_written : List Step
+both_written = of_journal Write ∷ of_journal Keep ∷ of_file Measure ∷ file_written
+
+abbrev pub both_made : List Step
+both_made = of_journal Make ∷ of_journal Part ∷ of_file Make ∷ of_file Fit ∷ of_journal Fit ∷ both_written
+
+-- or the journal alone
+abbrev pub alone_placed : List Step
+alone_placed = of_journal Place ∷ of_journal SyncLast ∷ []
+
+abbrev pub alone_written : List Step
+alone_written = of_journal Write ∷ of_journal Keep ∷ of_file Look ∷ alone_placed
+
+abbrev pub alone_made : List Step
+alone_made = of_journal Make ∷ of_journal Part ∷ of_journal Fit ∷ alone_written
+
+abbrev pub list_for : Option (List ℕ) → List Step
+list_for (Some file) = both_made
+list_for None = alone_made
+
+-- what was made is removed, the file's first
+abbrev pub removing : Option ℕ → List Step
+removing (Some n) = of_file Remove ∷ of_file Part ∷ of_journal Remove ∷ []
+removing None = of_journal Remove ∷ []

@@ -7,9 +7,9 @@ use Rattle.rec_text.specs.declared.element.Element.{Element}
 use Rattle.rec_journal.specs.declared.event.EditStep.{EditStep}
 use Rattle.rec_journal.specs.Revisions.{joined_steps, step_lists}
 use Rattle.rec_diff.specs.declared.reverting.edits.Edits.{Edits}
-use Rattle.rec_diff.specs.declared.reverting.keeping.Known.{Known}
+use Rattle.rec_diff.specs.declared.reverting.keeping.known.Known.{Known}
 use Rattle.rec_diff.specs.declared.reverting.keeping.Readings.{Readings}
-use Rattle.rec_diff.specs.declared.reverting.keeping.Side.{Side}
+use Rattle.rec_diff.specs.declared.reverting.keeping.sides.Side.{Side}
 use Rattle.rec_diff.specs.declared.reverting.spread.Spread.{Spread}
 use Rattle.rec_diff.specs.declared.reverting.weaving.Woven.{Woven}
 use Rattle.rec_diff.specs.declared.turn.Turn.{Turn}

@@ -6,7 +6,7 @@ use Rattle.std.specs.Option.{option_map_or}
 use Rattle.std.proofs.lemmas.Bool.{and_from, and_parts, cases_Bool, cases_eq, cases_lt, eqb-false, eqb-true, false≢true}
 use Rattle.std.proofs.lemmas.Option.{none-some, same_Some, slice_get_within}
 use Rattle.rec_diff.specs.declared.reverting.reading.Reading.{Reading}
-use Rattle.rec_diff.specs.declared.reverting.keeping.Side.{Side}
+use Rattle.rec_diff.specs.declared.reverting.keeping.sides.Side.{Side}
 use Rattle.rec_diff.specs.declared.reverting.spread.Spread.{Spread}
 use Rattle.rec_diff.specs.declared.reverting.spread.Spread.TheVariants.{Nowhere, In, Several}
 use Rattle.rec_diff.specs.declared.turn.Turn.{Turn}

@@ -5,7 +5,7 @@ use Rattle.std.specs.List.{AllByRecursion}
 use Rattle.std.proofs.lemmas.Option.{none-some, slice_get_within}
 use Rattle.rec_journal.specs.declared.event.EditStep.{EditStep}
 use Rattle.rec_diff.specs.declared.reverting.edits.Edits.{Edits}
-use Rattle.rec_diff.specs.declared.reverting.keeping.Known.{Known}
+use Rattle.rec_diff.specs.declared.reverting.keeping.known.Known.{Known}
 use Rattle.rec_diff.specs.declared.reverting.keeping.Readings.{Readings}
 use Rattle.rec_diff.specs.declared.reverting.reading.Reading.{Reading}
 use Rattle.rec_diff.specs.declared.reverting.weaving.Woven.{Woven}

@@ -9,7 +9,7 @@ mod places;
 use deeds::{Deed, deeds_of, newest_at, newest_standing, places_after};
 use places::{lines_at, paragraphs_at};
 use rec_journal::{EditStep, History, StandingEdit, Step, Steps};
-use rec_text::{Bytes, Fault, Obstacle};
+use rec_text::{Bytes, Obstacle};
 use std::alloc::{AllocError, Global};
 use std::ops::Range;
 
@@ -60,14 +60,15 @@ fn edit_and_later<'s>(
 }
 
 /// Where the obstacle to the revert of an edit is.
-fn place_of(alloc: Global, standing: &StandingEdit<'_>, here: &[u8]) -> Result<Place, Fault>
+fn place_of(alloc: Global, standing: &StandingEdit<'_>, here: &[u8]) -> Result<Place, AllocError>
     requires { StandsBefore here.now standing.now }
 {
     let texts = standing.texts();
     let before = texts.before();
+    let after = texts.after();
     let later = standing.later(alloc)?;
     let all = edit_and_later(alloc, texts.steps(), &later)?;
-    let deeds = deeds_of(alloc, before, &all)?;
+    let deeds = deeds_of(alloc, &all)?;
     let Some((own, others)) = deeds.split_first() else {
         return Ok(Place::Nowhere);
     };
@@ -75,7 +76,7 @@ fn place_of(alloc: Global, standing: &StandingEdit<'_>, here: &[u8]) -> Result<P
         return Ok(Place::TakenBack(by.checked_sub(1)));
     }
     let old = lines_at(alloc, before, &own.places.old)?;
-    let new = lines_at(alloc, texts.after(), &own.places.new)?;
+    let new = lines_at(alloc, after, &own.places.new)?;
     let left = places_after(alloc, others, new)?;
     if have_texts_of(before, &old, here, &left) {
         return Ok(Place::TakenBack(None));

@@ -1,14 +1,13 @@
 //! Which edits are in effect, and which of them made what stands at some places of a text.
-ghost use Rattle.std.specs.Prelude.{◌++◌, List, ℕ, IfOk};
-ghost use Rattle.rec_journal.specs.declared.event.EditStep.{EditStep};
+ghost use Rattle.std.specs.Prelude.{◌^◌, ◌<◌, List, ℕ, length};
 ghost use Rattle.rec_journal.specs.Revisions.{LeadsBy};
-ghost use Rattle.rec_tools.specs.proving.Reverting.{LeadOn};
+ghost use Rattle.rec_tools.specs.proving.Reverting.{AreInARow};
 
-use crate::obstacles::places::{Places, Toward, is_changed, lines_at, moved, places_of};
+use crate::obstacles::places::{Places, Toward, is_changed, moved, places_of};
 use rec_diff::compose;
 use rec_journal::EditStep;
-use rec_text::{Bytes, Fault};
 use std::alloc::{AllocError, Global};
+use std::collections::HashSet;
 use std::hash::{DefaultHasher, Hasher};
 use std::ops::Range;
 
@@ -16,7 +15,8 @@ use std::ops::Range;
 #[derive(Drop)]
 pub struct Deed {
     pub places: Places,
-    /// What the hashes of the lines that it put in add up to, less those of the lines that it took out.
+    /// What the hashes of the lines that it put in add up to, less those of the lines that it took out. The tools put in and take
+    /// out whole lines.
     lines: u64,
     /// The earlier edit that it takes back, by its place among all.
     target: Option<usize>,
@@ -65,71 +65,59 @@ fn hash_of(line: &[u8]) -> u64 {
     hasher.finish()
 }
 
-/// What the hashes of the lines of a text add up to in which these places are, which stand in order.
-fn sum_of_lines(alloc: Global, text: &[u8], places: &[Range<usize>]) -> Result<u64, AllocError> {
+/// What the hashes of the lines of a text add up to.
+fn sum_of_lines(text: &[u8]) -> u64 {
     let mut sum: u64 = 0;
-    let mut end: usize = 0;
-    for place in lines_at(alloc, text, places)? {
-        let lines = text.get(place.start.max(end)..place.end).unwrap_or(&[]);
-        for line in lines.split_inclusive(|byte| *byte == b'\n') {
-            sum = sum.wrapping_add(hash_of(line));
-        }
-        end = place.end.max(end);
+    for line in text.split_inclusive(|byte| *byte == b'\n') {
+        sum = sum.wrapping_add(hash_of(line));
     }
-    Ok(sum)
+    sum
 }
 
 /// What the steps of an edit do.
-fn deed_of(alloc: Global, before: &[u8], after: &[u8], steps: &[EditStep]) -> Result<Deed, Fault>
-    requires { (file : List ℕ) × LeadsBy steps.now before.now file }
+fn deed_of(alloc: Global, steps: &[EditStep]) -> Result<Deed, AllocError>
+    requires { (before after : List ℕ) × (length before < 2 ^ 64) × LeadsBy steps.now before after }
 {
     let hunks = compose(alloc, steps)?;
-    let places = places_of(alloc, &hunks)?;
-    let old = sum_of_lines(alloc, before, &places.old)?;
-    let new = sum_of_lines(alloc, after, &places.new)?;
+    let mut lines: u64 = 0;
+    for hunk in &hunks {
+        lines = lines.wrapping_add(sum_of_lines(hunk.new.as_slice()));
+        lines = lines.wrapping_sub(sum_of_lines(hunk.old.as_slice()));
+    }
     Ok(Deed {
-        places,
-        lines: new.wrapping_sub(old),
+        places: places_of(alloc, &hunks)?,
+        lines,
         target: None,
         taken_back_by: None,
     })
 }
 
-/// The text after the steps of an edit.
-fn text_after(alloc: Global, text: &[u8], steps: &[EditStep]) -> Result<Bytes, Fault>
-    ensures { IfOk result (λ after. (others : List EditStep) (file : List ℕ)
-        → LeadsBy (steps.now ++ others) text.now file → LeadsBy others after file) }
-{
-    let mut here = Bytes::copy_of(alloc, text)?;
-    let mut left = steps;
-    while let Some((step, others)) = left.split_first() {
-        here = step.patch.apply(alloc, here.as_slice())?;
-        left = others;
-    }
-    Ok(here)
-}
-
 /// What edits did, one after another, and which of them take others back.
-pub fn deeds_of(alloc: Global, text: &[u8], edits: &[&[EditStep]]) -> Result<Vec<Deed>, Fault>
-    requires { LeadOn text.now edits.now }
+pub fn deeds_of(alloc: Global, edits: &[&[EditStep]]) -> Result<Vec<Deed>, AllocError>
+    requires { AreInARow edits.now }
 {
     let mut deeds = Vec::new(alloc);
-    let mut here = Bytes::copy_of(alloc, text)?;
-    let mut count = 0;
-    while count < edits.len() {
-        let next = text_after(alloc, here.as_slice(), edits[count])?;
-        let deed = deed_of(alloc, here.as_slice(), next.as_slice(), edits[count])?;
-        add(alloc, &mut deeds, deed)?;
-        here = next;
-        count += 1;
+    let mut sums = HashSet::new(alloc);
+    for edit in edits {
+        add(alloc, &mut deeds, &mut sums, deed_of(alloc, edit)?)?;
     }
     Ok(deeds)
 }
 
-/// Adds what a later edit did.
-fn add(alloc: Global, deeds: &mut Vec<Deed>, deed: Deed) -> Result<(), AllocError> {
-    let target = target_of(alloc, deeds, &deed)?;
+/// Adds what a later edit did. The sums are those of all before it.
+fn add(
+    alloc: Global,
+    deeds: &mut Vec<Deed>,
+    sums: &mut HashSet<u64>,
+    deed: Deed,
+) -> Result<(), AllocError> {
+    let target = if sums.contains(&deed.lines.wrapping_neg()) {
+        target_of(alloc, deeds, &deed)?
+    } else {
+        None
+    };
     let place = deeds.len();
+    sums.insert(deed.lines)?;
     deeds.push(deed)?;
     if let Some(target) = target {
         take_back(deeds, target, place);
@@ -139,9 +127,6 @@ fn add(alloc: Global, deeds: &mut Vec<Deed>, deed: Deed) -> Result<(), AllocErro
 
 /// The place of the edit that a later one takes back: it wrote what that one takes out, at its places.
 fn target_of(alloc: Global, deeds: &[Deed], later: &Deed) -> Result<Option<usize>, AllocError> {
-    if !deeds.iter().any(|deed| deed.is_turned_by(later)) {
-        return Ok(None);
-    }
     let found = newest_of(alloc, deeds, &later.places.old, Sought::TurnedBy(later))?;
     Ok(found.map(|place| first_made(deeds, place)))
 }

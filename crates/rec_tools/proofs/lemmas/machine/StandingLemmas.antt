@@ -1,7 +1,7 @@
 -- The edit that a revert takes back is that of the machine, with the later ones.
 use Rattle.std.proofs.Common.{◌≡◌, ◌≢◌, inl, inr, ℕ, Bool, true, false, List, [], ◌∷◌, ◌++◌, map, reverse, append_assoc, append-nil, Option, Some, None, Result, Ok, Err}
 use Rattle.std.proofs.Common.{sym, ap, ap₂, subst, refl, ◌∙◌}
-use Rattle.std.specs.Prelude.{◌==◌, if◌then◌else◌}
+use Rattle.std.specs.Prelude.{◌==◌, bytes_eq, if◌then◌else◌}
 use Rattle.std.specs.List.{AllByRecursion}
 use Rattle.std.proofs.lemmas.Bool.{false≢true, cases_Bool, eqb-true, eqb-false}
 use Rattle.std.proofs.lemmas.List.{reverse-append}
@@ -54,29 +54,38 @@ module _ (o : Opened) (c : Contents) (s : State) (by : StandsBy o c s) (opens : 
   module _ (newer : List Revision) (e : Revision) (es : List Revision) (there : o.past ≡ newer ++ e ∷ es) (entry : Entry) (here : List ℕ) (over : LeadOver Backward newer c.file here)
       (numbered : e.number ≡ entry.number) (tool : e.tool ≡ entry.tool) (steps : e.steps ≡ entry.steps) (leads : Leads Backward e here entry.text)
       (later : List EditStep) (are : later ≡ joined_steps (steps_of_each (reverse newer))) where
-    found_here : entry.number ≡ number → IsFoundAs (record { tool = entry.tool; steps = entry.steps; before = entry.text; after = here; later = later })
+    abbrev counted : {A : Type 0} → List A → List A
+    counted all = if bytes_eq here c.file then [] else all
+
+    counted_joined : counted (joined_steps (steps_of_each (reverse newer))) ≡ joined_steps (counted (steps_of_each (reverse newer)))
+    counted_joined = elim (cases_Bool (bytes_eq here c.file)) [
+      | inl alike ↦ rw alike refl
+      | inr differ ↦ rw differ refl
+    ]
+
+    found_here : entry.number ≡ number → IsFoundAs (record { tool = entry.tool; steps = entry.steps; before = entry.text; after = here; later = counted later })
     found_here same = record {
-      found = record { made = with_texts Backward e here entry.text; later = steps_of_each (reverse newer) };
+      found = record { made = with_texts Backward e here entry.text; later = counted (steps_of_each (reverse newer)) };
       is = (
         by.settled,
         record { direction = Backward; nearer = newer; edit = e; farther = es },
         record { back = refl; to = record { there = there; for = numbered ∙ same } },
         record { made = record { here = here; there = entry.text; over = over; leads = leads; is = refl }; later = refl },
       );
-      same = same_standing _ _ tool steps refl refl (sym are);
+      same = same_standing _ _ tool steps refl refl (sym (ap counted are ∙ counted_joined));
     }
 
   -- after these newer ones
   search : (newer es : List Revision) (entries : List Entry) (here : List ℕ) (later : List EditStep) → o.past ≡ newer ++ es → AllByRecursion (λ (e : Revision). e.number ≢ number) newer
       → LeadOver Backward newer c.file here → AreEntries Backward es entries here → later ≡ joined_steps (steps_of_each (reverse newer))
-      → FoundAs (standing_in number later (told_back entries here))
+      → FoundAs (standing_in number c.file later (told_back entries here))
   search newer [] [] here later there none over are is = subst (AllByRecursion (λ (e : Revision). e.number ≢ number)) (sym (there ∙ append-nil newer)) none
   search newer [] (entry ∷ entries) here later there none over are is = absurd are
   search newer (e ∷ es) [] here later there none over are is = absurd are
   search newer (e ∷ es) (entry ∷ entries) here later there none over are is =
       let chosen : Bool → Option Standing =
-      λ b. if b then Some (record { tool = entry.tool; steps = entry.steps; before = entry.text; after = here; later = later })
-      else standing_in number (entry.steps ++ later) (told_back entries entry.text) in
+      λ b. if b then Some (record { tool = entry.tool; steps = entry.steps; before = entry.text; after = here; later = if bytes_eq here c.file then [] else later })
+      else standing_in number c.file (entry.steps ++ later) (told_back entries entry.text) in
       elim (cases_Bool (entry.number == number)) [
         | inl yes_it_is ↦ subst FoundAs (sym (ap chosen yes_it_is))
             (found_here newer e es there entry here over are.0 are.1 are.2 are.3 later is (eqb-true entry.number number yes_it_is))
@@ -89,7 +98,7 @@ module _ (o : Opened) (c : Contents) (s : State) (by : StandsBy o c s) (opens : 
 
   found_as : FoundAs (standing_at number s)
   found_as =
-      subst (λ t. FoundAs (standing_in number [] (told_back s.past t))) (sym by.present)
+      subst (λ t. FoundAs (standing_in number t [] (told_back s.past t))) (sym by.present)
       (search [] o.past s.past c.file [] refl tt refl by.past refl)
 
   no_way : AllByRecursion (λ (e : Revision). e.number ≢ number) o.past → (way : Way) → IsWayBack o number way → ⊥

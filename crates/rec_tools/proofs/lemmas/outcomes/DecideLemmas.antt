@@ -24,7 +24,7 @@ use Rattle.rec_journal.proofs.lemmas.histories.Countings.{Opens-digest, drifted-
 use Rattle.rec_edit.specs.declared.answer.Edited.{Edited}
 use Rattle.rec_edit.specs.declared.outcome.Patched.{Patched}
 use Rattle.rec_edit.specs.Task.{Task, insert, replace, delete, comment_out, set, auto_fill, tool_of}
-use Rattle.rec_edit.specs.Batch.{IsEditOn, AreSteps, IsBatchOutcome, step_with}
+use Rattle.rec_edit.specs.Batch.{AreSteps, IsBatchOutcome, step_with}
 use Rattle.rec_edit.specs.Outcome.{IsSoundUnlessForced}
 use Rattle.rec_check.specs.DescribedTexts.{DescribedText, IsDescribedText}
 use Rattle.rec_tools.specs.declared.decision.Decision.{Decision}

@@ -429,15 +429,24 @@ taken_back() {
     done
 }
 
-@test "what was deleted is there again, and no later edit stands" {
+@test "where the text after an edit is there again, later edits came to nothing" {
     put db.rec 'A: 1¶¶A: 1¶'
     does recdel -n 0 db.rec
     does recset -f A -s 2 db.rec
     does recset -f A -s 1 db.rec
-    local line="db.rec.journal: edit 1 can't be taken back alone any more"
-    stays "$line; undo --through 1 takes it back with all later ones" "$refusal" revert 1 db.rec
-    does undo --through 1 db.rec
+    does revert 1 db.rec
     has db.rec 'A: 1¶¶A: 1¶'
+    # another edit stands: it is the one to revert first
+    put db.rec 'A: 1¶¶A: 1¶¶B: 1¶'
+    rm db.rec.journal
+    does recdel -n 0 db.rec
+    does recset -n 0 -f A -s 2 db.rec
+    does recset -n 1 -f B -s 2 db.rec
+    does recset -n 0 -f A -s 1 db.rec
+    stays 'db.rec.journal: edit 3, recset, is in the way; revert it first' "$refusal" revert 1 db.rec
+    does revert 3 db.rec
+    does revert 1 db.rec
+    has db.rec 'A: 1¶¶A: 1¶¶B: 1¶'
 }
 
 @test "a descriptor that would be left is none" {

@@ -449,6 +449,21 @@ taken_back() {
     has db.rec 'A: 1¶¶A: 1¶¶B: 1¶'
 }
 
+@test "no later edit stands, and the text is another one" {
+    put db.rec 'A: 1¶B: x¶¶A: 2¶B: x¶C: 1¶'
+    put again 'Tool: recset¶Number: 1¶Fields: B¶Add: x¶¶Tool: recset¶Number: 1¶Fields: C¶Add: 1¶'
+    put out 'Tool: recset¶Number: 1¶Fields: C¶Delete: yes¶¶Tool: recset¶Number: 0¶Fields: B¶Delete: yes¶'
+    does recset -n 1 -f B,C -d db.rec
+    does batch -b again db.rec
+    # what went again is an equal field of another record
+    does batch -b out db.rec
+    rm again out
+    local line="db.rec.journal: edit 1 can't be taken back alone any more"
+    stays "$line; undo --through 1 takes it back with all later ones" "$refusal" revert 1 db.rec
+    does undo --through 1 db.rec
+    has db.rec 'A: 1¶B: x¶¶A: 2¶B: x¶C: 1¶'
+}
+
 @test "a descriptor that would be left is none" {
     local events=
     events+=$(edit 1 '%rec: T¶%key:¶¶A: 1¶' '%rec: T¶%key: A¶¶A: 1¶' "$(line 8 '%key:' '%key: A')")

@@ -1,5 +1,6 @@
 pub mod layouts
 pub mod scripts
+pub mod blocks
 pub mod outcomes
 pub mod examples
 pub mod records

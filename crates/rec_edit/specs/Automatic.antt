@@ -1,5 +1,6 @@
 -- Automatic fields: those that a new record lacks, and those that the records of a text lack.
 use Rattle.std.specs.Prelude.{◌≡◌, ℕ, ℤ, Bool, true, not, List, [], ◌∷◌, ◌++◌, map, filter, position, Option, Some}
+use Rattle.std.specs.Prelude.{option_to_list}
 use Rattle.std.specs.Prelude.{None, Result, Ok}
 use Rattle.std.specs.Str.{bytes_eq}
 use Rattle.std.specs.declared.ops.Range.{Range}
@@ -14,7 +15,7 @@ use Rattle.rec_check.specs.Schemas.{Described}
 use Rattle.rec_check.specs.Sets.{is_of_type}
 use Rattle.rec_check.specs.Violations.{members, names_of}
 use Rattle.rec_text.specs.Bytes.{is_among}
-use Rattle.rec_edit.specs.Insertions.{Numbered, Filled}
+use Rattle.rec_edit.specs.Insertions.{Numbered}
 
 -- those of the automatic names that aren't among the names of a record's fields
 abbrev pub lacking : List (List ℕ) → List (List ℕ) → List (List ℕ)
@@ -45,29 +46,32 @@ AreAutomatic pieces schema _ _ names answer = answer ≡ Ok []
 abbrev pub numbers_in : List Numbered → List ℕ → List ℤ
 numbers_in given name = map (λ one. one.number) (filter (λ one. bytes_eq one.name name) given)
 
--- Record by record of a set, the fields that it lacks. A number that is given counts for the records after.
-abbrev pub AreFilled : List Piece → Rules → (List ℕ → List ℤ) → List (Range ℕ) → Result (List Filled) Fault → Type 0
+-- Record by record, the fields that each lacks. A number that is given counts for the records after.
+abbrev pub AreFilled : List Piece → Rules → (List ℕ → List ℤ) → List (Range ℕ) → Result (List (List Numbered)) Fault
+    → Type 0
 AreFilled pieces rules numbers [] answer = answer ≡ Ok []
 AreFilled pieces rules numbers (own_range ∷ records) answer =
     Then (AreNumbered (λ name. IsNext rules name (numbers name))
     (lacking (automatic_names rules) (names_of (elements_in pieces own_range)))) (λ given.
     Then (AreFilled pieces rules (λ name. numbers_in given name ++ numbers name) records) (λ filled answer.
-    answer ≡ Ok (record { range = own_range; given = given } ∷ filled))) answer
+    answer ≡ Ok (given ∷ filled))) answer
 
--- the records of a set
-abbrev pub AreFilledMembers : List Piece → List (Range ℕ) → Set_ → Rules → Result (List Filled) Fault → Type 0
-AreFilledMembers pieces records s rules =
-    AreFilled pieces rules (readings pieces (members records s)) (members records s)
+-- the records of a set: its descriptor is given none, and then its members
+abbrev pub AreFilledSet : List Piece → List (Range ℕ) → Set_ → Rules → Result (List (List Numbered)) Fault → Type 0
+AreFilledSet pieces records s rules =
+    Then (AreFilled pieces rules (readings pieces (members records s)) (members records s)) (λ filled answer.
+    answer ≡ Ok (map (λ _. []) (option_to_list s.head) ++ filled))
 
 -- set by set; the untyped set has no automatic field
-abbrev pub AreFilledSets : List Piece → List (Range ℕ) → List Set_ → List Rules → Result (List Filled) Fault → Type 0
+abbrev pub AreFilledSets : List Piece → List (Range ℕ) → List Set_ → List Rules → Result (List (List Numbered)) Fault
+    → Type 0
 AreFilledSets pieces records [] [] answer = answer ≡ Ok []
 AreFilledSets pieces records (s ∷ sets) (rules ∷ more) answer =
-    Then (AreFilledMembers pieces records s rules) (λ own.
+    Then (AreFilledSet pieces records s rules) (λ own.
     Then (AreFilledSets pieces records sets more) (λ filled answer.
     answer ≡ Ok (own ++ filled))) answer
 AreFilledSets pieces records _ _ answer = ⊥
 
--- the records of all sets
-abbrev pub AreFilledOf : List Piece → List (Range ℕ) → Described → Result (List Filled) Fault → Type 0
+-- what each record of a text is given, in their order
+abbrev pub AreFilledOf : List Piece → List (Range ℕ) → Described → Result (List (List Numbered)) Fault → Type 0
 AreFilledOf pieces records schema = AreFilledSets pieces records schema.sets schema.rules

@@ -1,13 +1,12 @@
 -- What an edit means for the records of a text, whatever stands between them.
-use Rattle.std.specs.Prelude.{◌≡◌, ◌==◌, ◌&&◌, ℕ, List, [], ◌∷◌, ◌++◌, map, take, drop, reverse, flat_map, filter_map}
+use Rattle.std.specs.Prelude.{◌≡◌, ◌&&◌, ℕ, List, [], ◌∷◌, ◌++◌, map, take, drop, reverse, flat_map, filter_map}
 use Rattle.std.specs.Prelude.{find, is_some, slice_get, zip, Option, Some, None, Ok, if◌then◌else◌}
-use Rattle.std.specs.List.{AllZip, list_any, enumerate_from}
+use Rattle.std.specs.List.{AllZip, enumerate_from}
 use Rattle.std.specs.Option.{option_map_or}
 use Rattle.std.specs.declared.ops.Range.{Range}
 use Rattle.rec_text.specs.Elements.{Piece, AreElementsOf}
 use Rattle.rec_text.specs.Records.{AreRecords, elements_in, is_field_piece}
 use Rattle.rec_sex.specs.declared.lists.field_list.Item.{Item}
-use Rattle.rec_sex.specs.Lists.{picks}
 use Rattle.rec_check.specs.declared.set.Set_.{Set_}
 use Rattle.rec_check.specs.Automatic.{automatic_names}
 use Rattle.rec_check.specs.Descriptors.{rec_name, holds_index}
@@ -19,7 +18,8 @@ use Rattle.rec_select.specs.Selection.{IsSelection}
 use Rattle.rec_edit.specs.declared.request.Action.{Action}
 use Rattle.rec_edit.specs.Task.{Pair, Wanted, Task, insert, replace, delete, comment_out, set, auto_fill}
 use Rattle.rec_edit.specs.Script.{closed}
-use Rattle.rec_edit.specs.Rules.{canonical, fields_of, picked_becomes, added}
+use Rattle.rec_edit.specs.Blocks.{is_selected}
+use Rattle.rec_edit.specs.Rules.{canonical, fields_of, added, becomes_if, is_picked}
 use Rattle.rec_edit.specs.Insertions.{Numbered, numbered_fields}
 use Rattle.rec_edit.specs.Wording.{AreItemsFor, IsNewRecord}
 use Rattle.rec_edit.specs.Automatic.{AreAutomatic, lacking}
@@ -62,15 +62,13 @@ typed_record record_type own = elim (between_fields own) [
 -- each record of these indexes is replaced by what is made of it, and is left out where that has no field
 abbrev pub remade : List ℕ → (List Piece → List Piece) → List TypedRecord → List TypedRecord
 remade selected made all_typed = filter_map
-    (λ (i, typed). if list_any (λ k. k == i) selected then typed_record typed.record_type (made typed.own)
-    else Some typed)
+    (λ (i, typed). if is_selected selected i then typed_record typed.record_type (made typed.own) else Some typed)
     (enumerate_from 0 all_typed)
 
 -- a record with its picked fields edited, and with those that are added
 abbrev pub with_fields : Action → List Item → List Piece → List Piece
 with_fields action items own =
-    flat_map (λ (i, piece). if list_any (λ place. place == i) (picks items own) then picked_becomes action piece
-    else piece ∷ []) (enumerate_from 0 own)
+    flat_map (λ (i, piece). becomes_if (is_picked items own i) action piece) (enumerate_from 0 own)
     ++ added action items own
 
 -- records stand before the one of this index

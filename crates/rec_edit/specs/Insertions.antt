@@ -1,6 +1,6 @@
--- Where an edit puts new elements: the layouts of a new record and of automatic fields.
-use Rattle.std.specs.Prelude.{ℕ, ℤ, ◌+◌, ◌-◌, ◌==◌, Bool, not, List, [], ◌∷◌, ◌++◌, length, map, drop, take, reverse}
-use Rattle.std.specs.Prelude.{flat_map, find, slice_get, Option, Some, None, option_and_then, if◌then◌else◌}
+-- Where an edit puts new elements: a new record, and automatic fields.
+use Rattle.std.specs.Prelude.{ℕ, ℤ, ◌+◌, ◌-◌, Bool, not, List, [], ◌∷◌, ◌++◌, length, map, drop, take, reverse}
+use Rattle.std.specs.Prelude.{find, slice_get, Option, Some, None, option_and_then, if◌then◌else◌}
 use Rattle.std.specs.List.{prefix_len}
 use Rattle.std.specs.Option.{option_map_or}
 use Rattle.std.specs.Fmt.{signed_decimal}
@@ -11,7 +11,8 @@ use Rattle.rec_check.specs.declared.set.Set_.{Set_}
 use Rattle.rec_check.specs.Descriptors.{rec_name}
 use Rattle.rec_check.specs.Sets.{is_of_type}
 use Rattle.rec_select.specs.Selection.{has_members}
-use Rattle.rec_edit.specs.Script.{Layout, untouched}
+use Rattle.rec_edit.specs.Script.{Part}
+use Rattle.rec_edit.specs.Blocks.{Block, kept, put}
 use Rattle.rec_edit.specs.Rules.{canonical, empty_line}
 
 -- ---- insert
@@ -83,8 +84,10 @@ abbrev pub insertion_for : List Piece → List (Range ℕ) → List Set_ → Opt
 insertion_for pieces records sets None fields = untyped_insertion pieces records sets fields
 insertion_for pieces records sets (Some record_type) fields = typed_insertion pieces records sets fields record_type
 
-abbrev pub inserting : Insertion → Layout
-inserting insertion = record untouched { put = λ i. if insertion.place == i then insertion.new else [] }
+-- elements are put in, before the one of an index
+abbrev pub inserted : Insertion → List Piece → List Part
+inserted insertion pieces =
+    kept (take insertion.place pieces) ++ (put insertion.new ++ kept (drop insertion.place pieces))
 
 -- ---- automatic fields
 
@@ -96,13 +99,10 @@ pub record Numbered : Type 0 where
 abbrev pub numbered_fields : List Numbered → List Piece
 numbered_fields given = map (λ one. canonical one.name (signed_decimal one.number)) given
 
--- a record, and the automatic fields that are put first in it
-pub record Filled : Type 0 where
-  pub range : Range ℕ
-  pub given : List Numbered
+-- those that the record of an index is given
+abbrev pub fields_at : List (List Numbered) → ℕ → List Piece
+fields_at given k = option_map_or numbered_fields (slice_get given k) []
 
-abbrev pub filling : List Filled → Layout
-filling filled = record untouched {
-  put = λ i. flat_map (λ one. if one.range.start == i then numbered_fields one.given
-      else []) filled;
-}
+-- fields are put first in a record
+abbrev pub filled : List Piece → Block → List Part
+filled new block = put new ++ kept (block.own ++ block.gap)

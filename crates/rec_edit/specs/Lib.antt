@@ -1,6 +1,7 @@
 -- what an edit is, and what it means
 pub mod Task
 pub mod Script
+pub mod Blocks
 pub mod Rules
 pub mod Insertions
 pub mod Wording

@@ -1,8 +1,7 @@
 -- What one edit makes of the elements of a text: its first refusal in their order, or its script and how many records
 -- it changes.
-use Rattle.std.specs.Prelude.{◌≡◌, ◌≤◌, ℕ, Bool, true, false, not, List, [], ◌∷◌, ◌++◌, length, map, filter_map}
-use Rattle.std.specs.Prelude.{count_by, slice_get, Option, Some, None, Result, Ok, Err, if◌then◌else◌}
-use Rattle.std.specs.Str.{bytes_eq}
+use Rattle.std.specs.Prelude.{◌≡◌, ◌≤◌, ℕ, Bool, true, false, List, [], ◌∷◌, ◌++◌, length, map}
+use Rattle.std.specs.Prelude.{Option, Some, None, Result, Ok, Err, if◌then◌else◌}
 use Rattle.std.specs.declared.ops.Range.{Range}
 use Rattle.rec_text.specs.declared.fault.Fault.{Fault}
 use Rattle.rec_text.specs.declared.fault.Fault.TheVariants.{OutOfMemory, BadPattern, BadFieldList, NoSelection}
@@ -24,20 +23,19 @@ use Rattle.rec_journal.specs.Revisions.{all_hunks, is_batch}
 use Rattle.rec_select.specs.Selection.{Filter, all, by_expression, at_places, with_text, with_value, IsSelection}
 use Rattle.rec_edit.specs.declared.outcome.Patched.{Patched}
 use Rattle.rec_edit.specs.Task.{Wanted, Task, insert, replace, delete, comment_out, set, auto_fill}
-use Rattle.rec_edit.specs.Script.{Part, Layout, closed, IsScriptOf, old_pieces, new_pieces, edited_text, parts_in}
+use Rattle.rec_edit.specs.Script.{Part, settled, old_pieces, new_pieces, edited_text}
 use Rattle.rec_edit.specs.Script.{AreChangesOf}
-use Rattle.rec_edit.specs.Rules.{fields_of, deletion, commenting, replacement, setting}
-use Rattle.rec_edit.specs.Insertions.{inserting, insertion_for, numbered_fields, filling}
+use Rattle.rec_edit.specs.Blocks.{Block, blocks_of, changed_from, is_selected, script_of}
+use Rattle.rec_edit.specs.Rules.{fields_of, replaced, commented, deleted, edited}
+use Rattle.rec_edit.specs.Insertions.{Insertion, inserted, insertion_for, numbered_fields, fields_at, filled}
 use Rattle.rec_edit.specs.Wording.{AreItemsFor, IsNewRecord}
 use Rattle.rec_edit.specs.Automatic.{AreAutomatic, AreFilledOf}
 
 -- ---- the records that are meant
 
--- the ranges of the records that are wanted
-abbrev pub AreChosen : List Piece → List Set_ → Wanted → Result (List (Range ℕ)) Fault → Type 0
-AreChosen pieces sets wanted =
-    Then (IsSelection pieces sets wanted.record_type wanted.filter) (λ selected answer.
-    (records : List (Range ℕ)) × AreRecords pieces records × (answer ≡ Ok (filter_map (slice_get records) selected)))
+-- the indexes of the records that are wanted
+abbrev pub AreChosen : List Piece → List Set_ → Wanted → Result (List ℕ) Fault → Type 0
+AreChosen pieces sets wanted = IsSelection pieces sets wanted.record_type wanted.filter
 
 -- records are taken out without a selection only where that is forced
 abbrev pub allowed : Filter → Bool → Result (Unit {0}) Fault
@@ -48,7 +46,7 @@ allowed (with_text text) force = Ok tt
 allowed (with_value wanted) force = Ok tt
 
 -- those that may be taken out
-abbrev pub AreRemovable : List Piece → List Set_ → Wanted → Bool → Result (List (Range ℕ)) Fault → Type 0
+abbrev pub AreRemovable : List Piece → List Set_ → Wanted → Bool → Result (List ℕ) Fault → Type 0
 AreRemovable pieces sets wanted force =
     Then (AreChosen pieces sets wanted) (λ chosen.
     Then (λ answer. answer ≡ allowed wanted.filter force) (λ _ answer. answer ≡ Ok chosen))
@@ -61,52 +59,47 @@ pub record EditScript : Type 0 where
   pub changed : ℕ
   pub chosen : Option ℕ
 
--- the script makes something else of a record, the newline at the end of the text aside
-abbrev pub is_changed_by : List Part → Range ℕ → Bool
-is_changed_by script own_range = not (bytes_eq
-    (text_of (map closed (new_pieces (parts_in own_range 0 script))))
-    (text_of (map closed (old_pieces (parts_in own_range 0 script)))))
+-- what is made of the chosen records, where this number is selected
+abbrev pub made_of : Option ℕ → (ℕ → Bool) → (ℕ → Block → List Part) → List Piece → List (Range ℕ) → EditScript
+made_of selected chosen made pieces records = record {
+  script = script_of chosen made pieces records;
+  changed = changed_from chosen made 0 (blocks_of pieces records);
+  chosen = selected;
+}
 
--- the script of a layout, where this number is selected; of these records those count of which it makes something else
-abbrev pub IsLaidOutFor : Option ℕ → List Piece → List (Range ℕ) → Layout → Result EditScript Fault → Type 0
-IsLaidOutFor selected pieces records layout answer = (script : List Part) × IsScriptOf layout pieces script
-    × (answer ≡ Ok (record { script = script; changed = count_by (is_changed_by script) records; chosen = selected }))
+-- this is made of each of the selected records
+abbrev pub IsMade : List Piece → (Block → List Part) → List ℕ → Result EditScript Fault → Type 0
+IsMade pieces made selected answer = (records : List (Range ℕ)) × AreRecords pieces records
+    × (answer ≡ Ok (made_of (Some (length selected)) (is_selected selected) (λ _. made) pieces records))
 
--- the script of a layout for selected records
-abbrev pub IsLaidOut : List Piece → List (Range ℕ) → Layout → Result EditScript Fault → Type 0
-IsLaidOut pieces chosen = IsLaidOutFor (Some (length chosen)) pieces chosen
+-- elements are put in, as one record
+abbrev pub put_in : Insertion → List Piece → EditScript
+put_in insertion pieces = record { script = settled (inserted insertion pieces); changed = 1; chosen = None }
 
--- a new record is put in
-abbrev pub IsPutIn : List Piece → List (Range ℕ) → List Set_ → Option (List ℕ) → List Piece → Result EditScript Fault
-    → Type 0
-IsPutIn pieces records sets record_type fields answer =
-    (script : List Part) × IsScriptOf (inserting (insertion_for pieces records sets record_type fields)) pieces script
-    × (answer ≡ Ok (record { script = script; changed = 1; chosen = None }))
+-- a new record of this type is put in
+abbrev pub IsPutIn : List Piece → List Set_ → Option (List ℕ) → List Piece → Result EditScript Fault → Type 0
+IsPutIn pieces sets record_type fields answer = (records : List (Range ℕ)) × AreRecords pieces records
+    × (answer ≡ Ok (put_in (insertion_for pieces records sets record_type fields) pieces))
 
 -- the script of an edit of the text of these elements
 abbrev pub IsEditScript : List Piece → Described → Bool → Task → Result EditScript Fault → Type 0
 IsEditScript pieces schema force (insert record_type fresh auto) answer =
     Then (IsNewRecord record_type fresh) (λ pairs.
-    Then (AreAutomatic pieces schema record_type auto (map (λ pair. pair.name) pairs)) (λ automatic answer.
-    (records : List (Range ℕ)) × AreRecords pieces records
-    × IsPutIn pieces records schema.sets record_type (numbered_fields automatic ++ fields_of pairs) answer)) answer
+    Then (AreAutomatic pieces schema record_type auto (map (λ pair. pair.name) pairs)) (λ automatic.
+    IsPutIn pieces schema.sets record_type (numbered_fields automatic ++ fields_of pairs))) answer
 IsEditScript pieces schema force (replace wanted fresh) answer =
     Then (IsNewRecord None fresh) (λ pairs.
-    Then (AreChosen pieces schema.sets wanted) (λ chosen.
-    IsLaidOut pieces chosen (replacement (fields_of pairs) chosen))) answer
+    Then (AreChosen pieces schema.sets wanted) (IsMade pieces (replaced (fields_of pairs)))) answer
 IsEditScript pieces schema force (delete wanted) answer =
-    Then (AreRemovable pieces schema.sets wanted force) (λ chosen.
-    IsLaidOut pieces chosen (deletion pieces chosen)) answer
+    Then (AreRemovable pieces schema.sets wanted force) (IsMade pieces deleted) answer
 IsEditScript pieces schema force (comment_out wanted) answer =
-    Then (AreRemovable pieces schema.sets wanted force) (λ chosen.
-    IsLaidOut pieces chosen (commenting chosen)) answer
+    Then (AreRemovable pieces schema.sets wanted force) (IsMade pieces commented) answer
 IsEditScript pieces schema force (set wanted list action) answer =
     Then (AreItemsFor action list) (λ items.
-    Then (AreChosen pieces schema.sets wanted) (λ chosen.
-    IsLaidOut pieces chosen (setting action items pieces chosen))) answer
+    Then (AreChosen pieces schema.sets wanted) (IsMade pieces (edited action items))) answer
 IsEditScript pieces schema force auto_fill answer = (records : List (Range ℕ)) × AreRecords pieces records
-    × Then (AreFilledOf pieces records schema) (λ filled.
-    IsLaidOutFor None pieces (map (λ one. one.range) filled) (filling filled)) answer
+    × Then (AreFilledOf pieces records schema) (λ given answer.
+    answer ≡ Ok (made_of None (λ _. true) (λ k. filled (fields_at given k)) pieces records)) answer
 
 -- ---- the violations of the edited text
 

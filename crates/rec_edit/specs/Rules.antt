@@ -1,23 +1,22 @@
--- What an edit makes of the elements of a text: the layouts of the edits of records and of their fields. Chosen records
--- are given by the ranges of their elements, in order, each from its first to its last field.
-use Rattle.std.specs.Prelude.{ℕ, ◌+◌, ◌==◌, Bool, true, false, ◌&&◌, List, [], ◌∷◌, ◌++◌, length, map, filter, drop}
-use Rattle.std.specs.Prelude.{flat_map, if◌then◌else◌}
-use Rattle.std.specs.List.{list_any, prefix_len}
-use Rattle.std.specs.declared.ops.Range.{Range}
+-- What an edit makes of a record and of the elements after it, up to the next record.
+use Rattle.std.specs.Prelude.{ℕ, ◌==◌, Bool, true, false, List, [], ◌∷◌, ◌++◌, length, map, filter, take, drop}
+use Rattle.std.specs.Prelude.{if◌then◌else◌}
+use Rattle.std.specs.List.{list_any, prefix_len, enumerate_from}
 use Rattle.rec_text.specs.declared.element.Kind.TheVariants.{Blank, Comment}
 use Rattle.rec_text.specs.Ascii.{newline, hash}
+use Rattle.rec_text.specs.Bytes.{closed_text}
 pub use Rattle.rec_text.specs.Canonical.{canonical}
-use Rattle.rec_text.specs.Elements.{Piece, name_of}
-use Rattle.rec_text.specs.Records.{elements_in, is_blank_piece}
+use Rattle.rec_text.specs.Elements.{Piece, name_of, text_of}
+use Rattle.rec_text.specs.Records.{is_blank_piece}
 use Rattle.rec_text.specs.Values.{on_first}
 use Rattle.rec_sex.specs.declared.lists.field_list.Item.{Item}
 use Rattle.rec_sex.specs.Lists.{picks}
-use Rattle.rec_check.specs.Descriptors.{holds_index}
 use Rattle.rec_edit.specs.declared.request.Action.{Action}
 use Rattle.rec_edit.specs.declared.request.Action.TheVariants.{Set, Add, SetAdd, Rename, Delete}
 use Rattle.rec_edit.specs.declared.request.Action.TheVariants.{Comment as CommentFields}
 use Rattle.rec_edit.specs.Task.{Pair}
-use Rattle.rec_edit.specs.Script.{Layout, untouched}
+use Rattle.rec_edit.specs.Script.{Part}
+use Rattle.rec_edit.specs.Blocks.{Block, one, kept, put}
 
 -- ---- elements that recu writes
 
@@ -41,60 +40,23 @@ comments_of text = map (λ line. record { kind = Comment; bytes = hash ∷ line 
 abbrev pub renamed : List ℕ → Piece → Piece
 renamed name piece = record { kind = piece.kind; bytes = name ++ drop (length (name_of piece)) piece.bytes }
 
--- ---- which elements
+-- ---- a record as one: replaced, commented out, deleted
 
--- the element of this index is one of a record's own: it lies in one of these ranges
-abbrev pub is_own : List (Range ℕ) → ℕ → Bool
-is_own chosen i = list_any (holds_index i) chosen
+-- new elements stand instead of the record's own ones
+abbrev pub replaced : List Piece → Block → List Part
+replaced new block = record { old = block.own; new = new } ∷ kept block.gap
 
--- a record's range, with the blank elements directly after it
-abbrev pub with_blanks : List Piece → Range ℕ → Range ℕ
-with_blanks pieces own_range = record {
-  start = own_range.start;
-  end = own_range.end + prefix_len is_blank_piece (drop own_range.end pieces);
-}
+-- each physical line of its own elements becomes a comment
+abbrev pub commented : Block → List Part
+commented block = replaced (comments_of (closed_text (text_of block.own))) block
 
--- the element of this index is one that a list picks of this record
-abbrev pub is_picked_of : List Item → List Piece → ℕ → Range ℕ → Bool
-is_picked_of items pieces i own_range =
-    holds_index i own_range && list_any (λ place. own_range.start + place == i)
-    (picks items (elements_in pieces own_range))
+-- its own elements go, with the blank elements directly after them
+abbrev pub deleted : Block → List Part
+deleted block =
+    let blanks : ℕ = prefix_len is_blank_piece block.gap in
+    record { old = block.own ++ take blanks block.gap; new = [] } ∷ kept (drop blanks block.gap)
 
--- it is picked of one of these records
-abbrev pub is_picked : List Item → List Piece → List (Range ℕ) → ℕ → Bool
-is_picked items pieces chosen i = list_any (is_picked_of items pieces i) chosen
-
--- ---- delete and comment out
-
--- the elements of these ranges become comments, or nothing
-abbrev pub removing : Bool → List (Range ℕ) → Layout
-removing as_comments ranges = record untouched {
-  becomes = λ i piece. if is_own ranges i then (if as_comments then comments_of piece.bytes else []) else piece ∷ [];
-}
-
--- the elements of these ranges go
-abbrev pub taking_out : List (Range ℕ) → Layout
-taking_out ranges = removing false ranges
-
--- a record's own elements go, with the blank elements directly after them
-abbrev pub deletion : List Piece → List (Range ℕ) → Layout
-deletion pieces chosen = taking_out (map (with_blanks pieces) chosen)
-
--- each physical line of a record's own elements becomes a comment
-abbrev pub commenting : List (Range ℕ) → Layout
-commenting chosen = removing true chosen
-
--- ---- replace
-
--- the record's first element is replaced by the new fields, the others by nothing; all are changed as one
-abbrev pub replacement : List Piece → List (Range ℕ) → Layout
-replacement fields chosen = record untouched {
-  becomes = λ i piece. if list_any (λ own_range. own_range.start == i) chosen then fields else if is_own chosen i
-      then [] else piece ∷ [];
-  tied = λ i. is_own chosen i && is_own chosen (i + 1);
-}
-
--- ---- set, add, rename, delete and comment out fields
+-- ---- its fields: set, added, renamed, deleted, commented out
 
 -- what a picked field becomes
 abbrev pub picked_becomes : Action → Piece → List Piece
@@ -117,9 +79,16 @@ added (Rename name) items own = []
 added Delete items own = []
 added CommentFields items own = []
 
-abbrev pub setting : Action → List Item → List Piece → List (Range ℕ) → Layout
-setting action items pieces chosen = record untouched {
-  becomes = λ i piece. if is_picked items pieces chosen i then picked_becomes action piece else piece ∷ [];
-  put = λ i. flat_map (λ own_range. if own_range.end == i then added action items (elements_in pieces own_range)
-      else []) chosen;
-}
+-- what an element becomes, which may be picked
+abbrev pub becomes_if : Bool → Action → Piece → List Piece
+becomes_if picked action piece = if picked then picked_becomes action piece else piece ∷ []
+
+-- the list picks the element of this place
+abbrev pub is_picked : List Item → List Piece → ℕ → Bool
+is_picked items own i = list_any (λ place. place == i) (picks items own)
+
+-- each of its own elements becomes something; after the last one stand the fields that are added
+abbrev pub edited : Action → List Item → Block → List Part
+edited action items block =
+    map (λ (i, piece). one (becomes_if (is_picked items block.own i) action) piece) (enumerate_from 0 block.own)
+    ++ (put (added action items block.own) ++ kept block.gap)

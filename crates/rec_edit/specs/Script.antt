@@ -1,10 +1,9 @@
 -- The script of an edit: parts in order, in each of which some elements are replaced by others. Joined, the old ones
 -- are the elements of the text, and the new ones those of the edited text.
-use Rattle.std.specs.Prelude.{◌≡◌, ◌≢◌, ℕ, ◌+◌, ◌==◌, ◌⊎◌, Bool, true, false, leb, ◌&&◌, not, List, [], ◌∷◌, ◌++◌}
+use Rattle.std.specs.Prelude.{◌≡◌, ◌≢◌, ℕ, ◌+◌, ◌==◌, Bool, ◌&&◌, not, List, [], ◌∷◌, ◌++◌}
 use Rattle.std.specs.Prelude.{length, map, flat_map, if◌then◌else◌}
-use Rattle.std.specs.List.{AllByRecursion, enumerate_from}
+use Rattle.std.specs.List.{AllByRecursion}
 use Rattle.std.specs.Str.{bytes_eq}
-use Rattle.std.specs.declared.ops.Range.{Range}
 use Rattle.rec_text.specs.Ascii.{newline}
 use Rattle.rec_text.specs.Bytes.{is_nil, ends_newline, closed_text}
 use Rattle.rec_text.specs.Elements.{Piece, text_of}
@@ -14,23 +13,6 @@ use Rattle.rec_journal.specs.declared.patch.Hunk.{Hunk}
 pub record Part : Type 0 where
   pub old : List Piece
   pub new : List Piece
-
--- ---- what an edit makes of the elements
-
--- what stands instead of the element of an index; what is put before it (at the number of elements: after them all);
--- and whether it is changed as one with the next
-pub record Layout : Type 0 where
-  pub becomes : ℕ → Piece → List Piece
-  pub put : ℕ → List Piece
-  pub tied : ℕ → Bool
-
--- each element stays
-abbrev pub untouched : Layout
-untouched = record {
-  becomes = λ _ piece. piece ∷ [];
-  put = λ _. [];
-  tied = λ _. false;
-}
 
 -- ---- the newline at the end of the text
 
@@ -58,8 +40,8 @@ opened pieces = on_last (λ piece. record piece { bytes = without_newline piece.
 abbrev pub lacks_newline : List ℕ → Bool
 lacks_newline text = not (is_nil text) && not (ends_newline text)
 
--- A layout works on elements with newlines. What stands instead of the last element lacks the newline that it lacked,
--- unless something is put after it.
+-- Parts are made of elements with newlines. What stands instead of a last element without one lacks it too, unless
+-- something is put after it.
 abbrev pub settled : List Part → List Part
 settled parts = on_last (λ part. if lacks_newline (text_of part.old) then record part { new = opened part.new }
     else part) parts
@@ -76,53 +58,9 @@ new_pieces script = flat_map (λ part. part.new) script
 abbrev pub edited_text : List Part → List ℕ
 edited_text script = text_of (new_pieces script)
 
--- ---- the script of a layout
-
 -- some parts as one
 abbrev pub as_one : List Part → Part
 as_one run = record { old = old_pieces run; new = new_pieces run }
-
--- the part of one element, or of what is put before one; and whether it is changed as one with the next
-pub record Single : Type 0 where
-  pub part : Part
-  pub tied : Bool
-
--- what is put, if anything is
-abbrev pub put_alone : List Piece → List Single
-put_alone [] = []
-put_alone (piece ∷ pieces) = record { part = record { old = []; new = piece ∷ pieces }; tied = false } ∷ []
-
--- an element, with what stands instead of it
-abbrev pub changed_alone : Layout → ℕ → Piece → Single
-changed_alone layout i piece = record {
-  part = record { old = piece ∷ []; new = layout.becomes i (closed piece) };
-  tied = layout.tied i;
-}
-
--- each element after what is put before it, and at the end what is put after them all
-abbrev pub singles_of : Layout → List Piece → List Single
-singles_of layout pieces =
-    flat_map (λ (i, piece). put_alone (layout.put i) ++ changed_alone layout i piece ∷ []) (enumerate_from 0 pieces)
-    ++ put_alone (layout.put (length pieces))
-
--- in each run all but the last are tied to the next, and the last isn't, unless nothing comes after it
-abbrev pub AreTiedRuns : List (List Single) → Type 0
-AreTiedRuns [] = Unit {0}
-AreTiedRuns (run ∷ runs) = (tied : List Single) × (last : Single) × (run ≡ tied ++ last ∷ [])
-    × AllByRecursion (λ single. single.tied ≡ true) tied × ((last.tied ≡ false) ⊎ (runs ≡ []))
-    × AreTiedRuns runs
-
--- the single parts are cut into such runs, and a part of the script stands for each run
-pub record IsScriptOf (layout : Layout) (pieces : List Piece) (script : List Part) : Type 0 where
-  pub runs : List (List Single)
-  pub joined : flat_map (λ run. run) runs ≡ singles_of layout pieces
-  pub tied : AreTiedRuns runs
-  pub parts : script ≡ settled (map (λ run. as_one (map (λ single. single.part) run)) runs)
-
--- a layout has exactly one script
-abbrev pub OneScript : Type 0
-OneScript = (layout : Layout) (pieces : List Piece) → (script : List Part) × IsScriptOf layout pieces script
-    × ((other : List Part) → IsScriptOf layout pieces other → other ≡ script)
 
 -- ---- the patch
 
@@ -138,15 +76,6 @@ changes_from at (part ∷ parts) =
     then changes_from (at + length (text_of part.old)) parts
     else record { at = at; old = text_of part.old; new = text_of part.new }
     ∷ changes_from (at + length (text_of part.old)) parts
-
--- the parts whose old elements lie in a range of indexes, those without old elements at its ends too; the first part
--- begins at this index
-abbrev pub parts_in : Range ℕ → ℕ → List Part → List Part
-parts_in range i [] = []
-parts_in range i (part ∷ parts) =
-    if leb range.start i && leb (i + length part.old) range.end
-    then part ∷ parts_in range (i + length part.old) parts
-    else parts_in range (i + length part.old) parts
 
 -- runs of kept parts and of changed ones in turn, each as long as it can be; the first is of kept parts, or of changed
 -- ones

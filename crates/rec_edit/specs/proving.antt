@@ -1,10 +1,8 @@
 -- What serves proofs.
-pub mod Parts
 pub mod Changes
 pub mod Drafts
 pub mod Edits
-pub mod Marks
-pub mod Endings
+pub mod Laying
 pub mod Given
 pub mod Causes
 pub mod Sites

@@ -1,19 +1,22 @@
 //! The insertion of a new record.
-ghost use Rattle.std.specs.Prelude.{◌≡◌, ◌++◌, OnOk, IfOk};
-ghost use Rattle.rec_text.specs.Elements.{text_of};
+ghost use Rattle.std.specs.Prelude.{◌≡◌, ◌++◌, ◌+◌, ◌^◌, ◌<◌, ◌≤◌, length, take, OnOk, IfOk};
+ghost use Rattle.rec_text.specs.Bytes.{closed_text};
+ghost use Rattle.rec_text.specs.Elements.{AreElementsOf, text_of};
 ghost use Rattle.rec_check.specs.Stored.{described};
-ghost use Rattle.rec_edit.specs.Insertions.{inserting};
+ghost use Rattle.rec_edit.specs.Blocks.{kept};
 ghost use Rattle.rec_edit.specs.Rules.{fields_of};
-ghost use Rattle.rec_edit.specs.proving.Sites.{empty_line_before, empty_line_after, heading, block, Begins};
+ghost use Rattle.rec_edit.specs.proving.Drafts.{LeadsOn};
+ghost use Rattle.rec_edit.specs.proving.Sites.{empty_line_before, empty_line_after, heading, Begins};
 
 pub mod fresh;
 mod site;
 
+use crate::draft::Draft;
 use crate::insertion::site::{Gap, Site, at_end, site_beside};
+use crate::outcome::Patched;
 use crate::request::Pair;
-use crate::script::layout::Layout;
 use rec_check::{RecFile, Schema};
-use rec_text::{Bytes, Database, Element, append_field};
+use rec_text::{Bytes, Database, append_field, ends_newline};
 use std::alloc::{AllocError, Global};
 
 /// Appends the empty line before a new record, if there is one.
@@ -87,6 +90,41 @@ fn begin(
     }
 }
 
+/// A text with a newline at its end.
+fn closed(alloc: Global, text: &[u8]) -> Result<Vec<u8>, AllocError>
+    ensures { IfOk result (λ new. new.items ≡ closed_text text.now) }
+{
+    let mut new = Vec::from_slice(alloc, text)?;
+    if !ends_newline(text) {
+        new.push(b'\n')?;
+    }
+    Ok(new)
+}
+
+/// Carries out the elements before an index, of which the last one gets the newline that it may lack.
+fn lay_closed(
+    alloc: Global,
+    database: &Database,
+    place: usize,
+    draft: &mut Draft,
+) -> Result<(), AllocError>
+    requires whole { AreElementsOf database.now (text_of database.now) }
+    requires within { place ≤ length database.now }
+    requires fits { draft.old.at + length (text_of (take place database.now)) < 2 ^ 64 }
+    ensures laid { OnOk result (LeadsOn draft.old (kept (take place database.now)) draft.new) }
+    ensures reached { OnOk result (draft.new.at ≡ draft.old.at + length (text_of (take place database.now))) }
+{
+    if place == 0 {
+        return Ok(());
+    }
+    let start = place - 1;
+    let last = database.text_in(&(start..place));
+    let new = closed(alloc, last)?;
+    draft.keep(database.text_in(&(0..start)))?;
+    draft.change(alloc, last, &new)?;
+    Ok(())
+}
+
 /// A text that is put in before the element of an index.
 #[derive(Drop)]
 pub(crate) struct Insertion {
@@ -95,8 +133,12 @@ pub(crate) struct Insertion {
 }
 
 impl Insertion {
-    ghost use Rattle.std.specs.Prelude.{IfOk};
+    ghost use Rattle.std.specs.Prelude.{◌≡◌, ◌≤◌, List, length, IfOk};
+    ghost use Rattle.rec_text.specs.Elements.{Piece};
+    ghost use Rattle.rec_edit.specs.Outcome.{put_in};
+    ghost use Rattle.rec_edit.specs.proving.Edits.{edited_by};
     ghost use Rattle.rec_edit.specs.proving.Files.{IsRecordPutIn};
+    ghost use Rattle.rec_edit.specs.proving.Sites.{AreSome};
 
     /// A new record with these fields, before which others stand that are given as a text.
     pub fn of(
@@ -106,8 +148,8 @@ impl Insertion {
         automatic: &[u8],
         pairs: &[Pair],
     ) -> Result<Insertion, AllocError>
-        ensures { IfOk result (λ layout.
-            IsRecordPutIn file.now record_type.now automatic.now pairs.now layout.place layout.text.items) }
+        ensures { IfOk result (λ insertion.
+            IsRecordPutIn file.now record_type.now automatic.now pairs.now insertion.place insertion.text.items) }
     {
         let mut text = Vec::new(alloc);
         let site = begin(&mut text, file.database(), file.schema(), record_type)?;
@@ -119,32 +161,24 @@ impl Insertion {
             text,
         })
     }
-}
 
-impl Layout for Insertion {
-    ghost layout = { λ layout. inserting (record { place = layout.place; new = block layout.text.items }) };
-
-    fn touches(&self, index: usize) -> bool {
-        index == self.place
-    }
-
-    fn tied(&self, index: usize) -> bool {
-        false
-    }
-
-    fn put(&self, index: usize, out: &mut Vec<u8>) -> Result<(), AllocError> {
-        if index == self.place {
-            return out.extend_from_slice(&self.text);
-        }
-        Ok(())
-    }
-
-    fn becomes(
-        &self,
-        index: usize,
-        element: &Element,
-        out: &mut Vec<u8>,
-    ) -> Result<(), AllocError> {
-        out.extend_from_slice(element.raw)
+    /// What it makes of a text.
+    pub fn carried_out(&self, alloc: Global, database: &Database) -> Result<Patched, AllocError>
+        requires within { self.now.place ≤ length database.now }
+        requires some { (pieces : List Piece) × AreSome pieces self.now.text.items }
+        ensures { (pieces : List Piece) → AreSome pieces self.now.text.items → IfOk result (λ edited.
+            edited ≡ edited_by (put_in (record { place = self.now.place; new = pieces }) database.now)) }
+    {
+        let mut draft = Draft::start(alloc, database.text().len())?;
+        lay_closed(alloc, database, self.place, &mut draft)?;
+        draft.put(alloc, &self.text)?;
+        draft.keep(database.text_in(&(self.place..database.elements().len())))?;
+        let (patch, text) = draft.finish()?;
+        Ok(Patched {
+            patch,
+            text,
+            changed: 1,
+            chosen: None,
+        })
     }
 }

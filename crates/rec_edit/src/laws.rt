@@ -1,12 +1,6 @@
 //! Laws of the definitions, which no function computes.
 ghost use Rattle.rec_edit.specs.Outcome.{HunksAreChanges, UnruledEditsAreSound};
 ghost use Rattle.rec_edit.specs.Batch.{EditsHaveOneOutcome};
-ghost use Rattle.rec_edit.specs.Script.{OneScript};
-
-/// A layout has exactly one script of a text.
-pub fn one_script()
-    ensures { OneScript }
-{}
 
 /// Edits have one outcome, whichever way the patterns of their texts were built.
 pub fn edits_have_one_outcome()

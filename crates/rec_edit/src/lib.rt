@@ -5,19 +5,20 @@
 mod answer;
 mod automatic;
 mod batches;
+mod changes;
 mod chosen;
+mod draft;
 mod insertion;
 mod laws;
-mod layouts;
+mod laying;
 mod outcome;
 mod request;
-mod script;
 mod sound;
 mod wording;
 
 pub use answer::{Edited, RefusedEdit};
 pub use batches::{batch, edit, edited};
-pub use laws::{edits_have_one_outcome, hunks_are_changes, one_script, unruled_edits_are_sound};
+pub use laws::{edits_have_one_outcome, hunks_are_changes, unruled_edits_are_sound};
 pub use rec_check::RecFile;
 pub use rec_journal::{EditStep, EditSteps, Patch, Tool};
 pub use rec_select::{By, Selection};

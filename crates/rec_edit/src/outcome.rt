@@ -1,30 +1,26 @@
 //! What one edit makes of a file.
-ghost use Rattle.std.specs.Prelude.{◌≡◌, length, Bool, None, IfOk};
+ghost use Rattle.std.specs.Prelude.{Bool};
 ghost use Rattle.rec_text.specs.Faults.{UnlessMemory};
-ghost use Rattle.rec_edit.specs.proving.Drafts.{AreRanges};
-ghost use Rattle.rec_edit.specs.proving.Edits.{laid_script_for, edited_by};
 ghost use Rattle.rec_edit.specs.proving.Files.{IsCarriedOutIn};
-ghost use Rattle.rec_edit.specs.proving.Filling.{filled_of, ranges_of};
-ghost use Rattle.rec_edit.specs.Insertions.{filling};
 ghost use Rattle.rec_edit.specs.Task.{task_of, wanted_by, fresh_by, insert as inserting_one, replace as replacing, delete as deleting, comment_out as commenting_out, set as setting_fields, auto_fill as filling_all};
 
 use crate::automatic::automatic_fields;
-use crate::automatic::filled::{FilledRecord, filled_records};
-use crate::automatic::filling::{Filling, record_ranges};
-use crate::chosen::{chosen_records, removable_records};
+use crate::automatic::filled::filled_records;
+use crate::automatic::filling::Filling;
+use crate::changes::deletion::Deletion;
+use crate::changes::replacement::{Commenting, Replacement};
+use crate::changes::setting::Setting;
+use crate::chosen::removable_records;
 use crate::insertion::Insertion;
 use crate::insertion::fresh::new_record;
-use crate::layouts::removal::Removal;
-use crate::layouts::replacement::Replacement;
-use crate::layouts::setting::Setting;
+use crate::laying::{carried_out, carried_out_on_all};
 use crate::request::{Action, Edit, NewRecord};
-use crate::script::{carried_out, carried_out_on, carried_out_over};
 use crate::wording::items_for;
 use rec_check::RecFile;
 use rec_journal::Patch;
-use rec_select::Selection;
+use rec_select::{Selection, choose};
 use rec_text::{Bytes, Refusal};
-use std::alloc::{AllocError, Global};
+use std::alloc::Global;
 
 /// What an edit makes of a text: the text after it, the patch that leads there, how many records it changed, and how many were
 /// selected, where it is of a selection.
@@ -50,8 +46,8 @@ fn insert(
 {
     let pairs = new_record(alloc, record_type, fresh)?;
     let automatic = automatic_fields(alloc, file, record_type, auto, &pairs)?;
-    let layout = Insertion::of(alloc, file, record_type, &automatic, &pairs)?;
-    Ok(carried_out_on(alloc, file, 1, None, &layout)?)
+    let insertion = Insertion::of(alloc, file, record_type, &automatic, &pairs)?;
+    Ok(insertion.carried_out(alloc, file.database())?)
 }
 
 /// A new record is put instead of each of a selection.
@@ -65,23 +61,10 @@ fn replace(
         → UnlessMemory result (IsCarriedOutIn file.now force
         (replacing (wanted_by selection.now) (fresh_by fresh.now))) }
 {
-    // These are the elements of a text.
-    let _text = file.database().text();
     let pairs = new_record(alloc, &None, fresh)?;
-    let chosen = chosen_records(alloc, file, selection)?;
-    let layout = Replacement::of(alloc, &pairs, &chosen)?;
-    Ok(carried_out(alloc, file, &chosen, &layout)?)
-}
-
-/// Records get these automatic fields.
-fn filled_up(alloc: Global, file: &RecFile, filled: &[FilledRecord]) -> Result<Patched, AllocError>
-    requires { AreRanges (length file.now.pieces) (ranges_of (filled_of filled.now)) }
-    ensures { IfOk result (λ edited. edited ≡ edited_by
-        (laid_script_for None file.now.pieces (ranges_of (filled_of filled.now)) (filling (filled_of filled.now)))) }
-{
-    let ranges = record_ranges(alloc, filled)?;
-    let layout = Filling::of(alloc, filled)?;
-    carried_out_over(alloc, file, &ranges, None, &layout)
+    let selected = choose(alloc, file, selection)?;
+    let change = Replacement::of(alloc, &pairs)?;
+    Ok(carried_out(alloc, file, &selected, &change)?)
 }
 
 /// All records of typed sets get the automatic fields that they lack.
@@ -89,7 +72,8 @@ fn auto_fill(alloc: Global, file: &RecFile) -> Result<Patched, Refusal>
     ensures { (force : Bool) → UnlessMemory result (IsCarriedOutIn file.now force filling_all) }
 {
     let filled = filled_records(alloc, file)?;
-    Ok(filled_up(alloc, file, &filled)?)
+    let change = Filling { filled: &filled };
+    Ok(carried_out_on_all(alloc, file, &change)?)
 }
 
 /// The records of a selection are deleted.
@@ -101,9 +85,8 @@ fn delete(
 ) -> Result<Patched, Refusal>
     ensures { UnlessMemory result (IsCarriedOutIn file.now force (deleting (wanted_by selection.now))) }
 {
-    let chosen = removable_records(alloc, file, selection, force)?;
-    let layout = Removal::deletion(alloc, file, &chosen)?;
-    Ok(carried_out(alloc, file, &chosen, &layout)?)
+    let selected = removable_records(alloc, file, selection, force)?;
+    Ok(carried_out(alloc, file, &selected, &Deletion {})?)
 }
 
 /// The records of a selection are commented out.
@@ -115,9 +98,8 @@ fn comment_out(
 ) -> Result<Patched, Refusal>
     ensures { UnlessMemory result (IsCarriedOutIn file.now force (commenting_out (wanted_by selection.now))) }
 {
-    let chosen = removable_records(alloc, file, selection, force)?;
-    let layout = Removal::commenting(alloc, &chosen)?;
-    Ok(carried_out(alloc, file, &chosen, &layout)?)
+    let selected = removable_records(alloc, file, selection, force)?;
+    Ok(carried_out(alloc, file, &selected, &Commenting {})?)
 }
 
 /// The fields that a list picks of the records of a selection are edited.
@@ -132,10 +114,13 @@ fn set(
         → UnlessMemory result (IsCarriedOutIn file.now force
         (setting_fields (wanted_by selection.now) list.now action.now)) }
 {
-    let items = items_for(alloc, action, list)?;
-    let chosen = chosen_records(alloc, file, selection)?;
-    let layout = Setting::of(alloc, file, &chosen, &items, action)?;
-    Ok(carried_out(alloc, file, &chosen, &layout)?)
+    let list = items_for(alloc, action, list)?;
+    let selected = choose(alloc, file, selection)?;
+    let change = Setting {
+        list: &list,
+        action,
+    };
+    Ok(carried_out(alloc, file, &selected, &change)?)
 }
 
 /// The edited text may break rules.

@@ -1,4 +1,3 @@
-mod ScriptExamples
 mod EditExamples
 mod InsertExamples
 pub mod WordingExamples

@@ -1,6 +1,5 @@
-pub mod SettingLemmas
-pub mod TakingOutLemmas
+pub mod CommentLemmas
+pub mod PickLemmas
 pub mod NeatLemmas
-pub mod FieldsLaidLemmas
-pub mod ReplacementLemmas
-pub mod ReplaceLemmas
+pub mod NameLemmas
+pub mod NewFieldLemmas

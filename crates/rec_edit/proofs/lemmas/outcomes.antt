@@ -1,6 +1,5 @@
 pub mod OutcomeLemmas
 pub mod EffectLemmas
-pub mod CountedLemmas
 pub mod UnruledLemmas
 pub mod EditLemmas
 pub mod AnswerLemmas

@@ -9,11 +9,11 @@ use Rattle.rec_check.specs.Rules.{Rules}
 use Rattle.rec_check.specs.Stored.{described}
 use Rattle.rec_select.specs.declared.selection.Selection.{Selection}
 use Rattle.rec_edit.specs.declared.outcome.Patched.{Patched}
-use Rattle.rec_edit.specs.Automatic.{AreAutomatic, AreFilledMembers}
+use Rattle.rec_edit.specs.Automatic.{AreAutomatic, AreFilledSet}
 use Rattle.rec_edit.specs.proving.Edits.{IsCarriedOut}
 use Rattle.rec_edit.specs.proving.Filling.{AreAllFilled, AreLacking}
 use Rattle.rec_edit.specs.proving.Given.{IsAutomaticText}
-use Rattle.rec_edit.specs.Insertions.{Numbered, Filled}
+use Rattle.rec_edit.specs.Insertions.{Numbered}
 use Rattle.rec_edit.specs.Outcome.{AreChosen, AreRemovable}
 use Rattle.rec_edit.specs.proving.Sites.{IsRecordPut}
 use Rattle.rec_edit.specs.Task.{Pair, Task, wanted_by}
@@ -21,10 +21,10 @@ use Rattle.rec_edit.specs.Wording.{names_in}
 
 -- ---- the records that are meant
 
-abbrev pub AreChosenIn : ReadText → Selection → Result (List (Range ℕ)) Fault → Type 0
+abbrev pub AreChosenIn : ReadText → Selection → Result (List ℕ) Fault → Type 0
 AreChosenIn file selection = AreChosen file.pieces (described file.schema).sets (wanted_by selection)
 
-abbrev pub AreRemovableIn : ReadText → Selection → Bool → Result (List (Range ℕ)) Fault → Type 0
+abbrev pub AreRemovableIn : ReadText → Selection → Bool → Result (List ℕ) Fault → Type 0
 AreRemovableIn file selection force = AreRemovable file.pieces (described file.schema).sets (wanted_by selection) force
 
 -- ---- a new record
@@ -54,10 +54,10 @@ IsSetIn file place records s rules = AreRecords file.pieces records
     × (slice_get (described file.schema).rules place ≡ Some rules)
 
 -- the records of such a set
-abbrev pub AreFilledMembersIn : ReadText → List (Range ℕ) → Set_ → Rules → Result (List Filled) Fault → Type 0
-AreFilledMembersIn file = AreFilledMembers file.pieces
+abbrev pub AreFilledSetIn : ReadText → List (Range ℕ) → Set_ → Rules → Result (List (List Numbered)) Fault → Type 0
+AreFilledSetIn file = AreFilledSet file.pieces
 
-abbrev pub AreFilledIn : ReadText → Result (List Filled) Fault → Type 0
+abbrev pub AreFilledIn : ReadText → Result (List (List Numbered)) Fault → Type 0
 AreFilledIn file = AreAllFilled file.pieces (described file.schema)
 
 -- ---- the edit

@@ -1,9 +1,8 @@
 -- Automatic fields as they are given: counter by counter, record by record, and set by set.
-use Rattle.std.specs.Prelude.{◌≡◌, ◌==◌, ◌<◌, ℕ, ℤ, Bool, List, [], ◌++◌, length, map, Option, Some, None, Result, Ok}
-use Rattle.std.specs.Prelude.{Err, if◌then◌else◌}
+use Rattle.std.specs.Prelude.{◌≡◌, ◌<◌, ℕ, ℤ, Bool, List, [], ◌++◌, length, map, Option, Result, Ok}
+use Rattle.std.specs.Prelude.{Err}
 use Rattle.std.specs.Borrow.{Bor}
 use Rattle.std.specs.HashSet.{HashSet}
-use Rattle.std.specs.List.{slice_index_or}
 use Rattle.std.specs.declared.ops.Range.{Range}
 use Rattle.rec_text.specs.declared.fault.Fault.{Fault}
 use Rattle.rec_text.specs.Elements.{Piece}
@@ -18,15 +17,15 @@ use Rattle.rec_text.specs.Bytes.{is_among}
 use Rattle.rec_edit.specs.declared.automatic.filled.FilledRecord.{FilledRecord}
 use Rattle.rec_edit.specs.declared.automatic.numbered.NumberedField.{NumberedField}
 use Rattle.rec_edit.specs.Automatic.{lacking, numbers_in, AreNumbered, AreAutomatic, AreFilledOf}
-use Rattle.rec_edit.specs.Insertions.{Numbered, numbered_fields, Filled, filling}
+use Rattle.rec_edit.specs.Insertions.{Numbered}
 
 -- ---- as they are kept
 
 abbrev pub numbered : List NumberedField → List Numbered
 numbered fields = map (λ field. record { name = field.name.now; number = field.number }) fields
 
-abbrev pub filled_of : List FilledRecord → List Filled
-filled_of records = map (λ one. record { range = one.range; given = numbered one.given.items }) records
+abbrev pub filled_of : List FilledRecord → List (List Numbered)
+filled_of records = map (λ one. numbered one.given.items) records
 
 -- the set has these names
 abbrev pub AreNamesOf : {S : Type 0} → HashSet (Bor (List ℕ)) S → List (List ℕ) → Type 0
@@ -70,39 +69,17 @@ GivesAt schema record_type auto place = (place < length schema.sets)
     → AreLacking pieces schema place own answer → AreAutomatic pieces schema record_type auto own answer)
 
 -- some are filled, after others
-pub record AddsFilled (answer : Result (List Filled) Fault → Type 0) (old new : List Filled) : Type 0 where
-  pub own : List Filled
+pub record AddsFilled (answer : Result (List (List Numbered)) Fault → Type 0)
+    (old new : List (List Numbered)) : Type 0 where
+  pub own : List (List Numbered)
   pub are : answer (Ok own)
   pub joined : new ≡ old ++ own
 
 -- the same of records as they are kept
-abbrev pub FillsMore : (Result (List Filled) Fault → Type 0) → List FilledRecord → List FilledRecord → Type 0
+abbrev pub FillsMore : (Result (List (List Numbered)) Fault → Type 0) → List FilledRecord → List FilledRecord → Type 0
 FillsMore answer old new = AddsFilled answer (filled_of old) (filled_of new)
 
 -- all records of a text are filled so
-abbrev pub AreAllFilled : List Piece → Described → Result (List Filled) Fault → Type 0
+abbrev pub AreAllFilled : List Piece → Described → Result (List (List Numbered)) Fault → Type 0
 AreAllFilled pieces schema answer = (records : List (Range ℕ)) × AreRecords pieces records
     × AreFilledOf pieces records schema answer
-
--- ---- as they are found
-
-abbrev pub ranges_of : List Filled → List (Range ℕ)
-ranges_of filled = map (λ one. one.range) filled
-
--- the place that is kept for an index
-abbrev pub place_at : List (Option ℕ) → ℕ → Option ℕ
-place_at places i = slice_index_or places i None
-
--- a place is kept for one index more
-abbrev pub KeepsPlace : List (Option ℕ) → List (Option ℕ) → ℕ → ℕ → Type 0
-KeepsPlace old new index place = (i : ℕ) → place_at new i ≡ (if index == i then Some place else place_at old i)
-
--- the record at this place, if there is one, gives what is put at an index
-abbrev pub IsPlaced : List Filled → ℕ → Option ℕ → Type 0
-IsPlaced filled i None = (filling filled).put i ≡ []
-IsPlaced filled i (Some place) = (place < length filled)
-    × ((one : Filled) → one ≡ slice_index_or filled place one → (filling filled).put i ≡ numbered_fields one.given)
-
--- the places lead to what is put at each index
-abbrev pub ArePlaces : List (Option ℕ) → List Filled → Type 0
-ArePlaces places filled = (i : ℕ) → IsPlaced filled i (place_at places i)

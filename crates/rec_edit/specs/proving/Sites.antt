@@ -1,8 +1,7 @@
 -- Where a new record is put among the elements of a text, and the text that is put there.
-use Rattle.std.specs.Prelude.{◌≡◌, ℕ, List, [], ◌∷◌, ◌++◌, Option, Some, None}
+use Rattle.std.specs.Prelude.{◌≡◌, ◌<◌, ℕ, List, [], ◌∷◌, ◌++◌, length, Option, Some, None}
 use Rattle.std.specs.Option.{option_map_or}
 use Rattle.std.specs.declared.ops.Range.{Range}
-use Rattle.rec_text.specs.declared.element.Kind.TheVariants.{Field}
 use Rattle.rec_text.specs.Elements.{Piece, text_of}
 use Rattle.rec_text.specs.Records.{AreRecords}
 use Rattle.rec_check.specs.Descriptors.{rec_name}
@@ -13,6 +12,7 @@ use Rattle.rec_edit.specs.declared.insertion.site.Site.{Site}
 use Rattle.rec_edit.specs.Rules.{canonical, empty_line, fields_of}
 use Rattle.rec_edit.specs.Insertions.{Insertion, insertion_for}
 use Rattle.rec_edit.specs.Task.{Pair}
+use Rattle.rec_edit.specs.proving.Drafts.{AreLines}
 
 -- the empty line before new elements, and the one after them
 abbrev pub empty_line_before : Gap → List Piece
@@ -67,7 +67,8 @@ pub record IsRecordPut (pieces : List Piece) (sets : List Set_) (record_type : O
   pub is : (given : List Piece) → automatic ≡ text_of given
       → IsPut place text (insertion_for pieces records sets record_type (given ++ fields_of pairs))
 
--- a text that is put in as one piece; none where it is empty
-abbrev pub block : List ℕ → List Piece
-block [] = []
-block (b ∷ bs) = record { kind = Field; bytes = b ∷ bs } ∷ []
+-- a text of some elements, each of which ends in a newline
+pub record AreSome (pieces : List Piece) (text : List ℕ) : Type 0 where
+  pub some : 0 < length pieces
+  pub lines : AreLines pieces
+  pub is : text ≡ text_of pieces

@@ -1,9 +1,9 @@
 //! Records with the automatic fields that they get.
-ghost use Rattle.std.specs.Prelude.{◌<◌, ℕ, ℤ, List, Ok, Err, length, IfOk, IfErr, IsOkUnless, OnOk};
+ghost use Rattle.std.specs.Prelude.{◌≡◌, ◌<◌, ◌++◌, [], ℕ, ℤ, List, Ok, Err, length, map, option_to_list, IfOk, IfErr, IsOkUnless, OnOk};
 ghost use Rattle.std.specs.declared.ops.Range.{Range};
 ghost use Rattle.rec_text.specs.Faults.{IsMemoryOr};
 ghost use Rattle.rec_text.specs.Places.{pieces_of};
-ghost use Rattle.rec_check.specs.declared.set.Set_.{Set_};
+ghost use Rattle.rec_check.specs.declared.set.Set_.{Set_ as SetOf};
 ghost use Rattle.rec_check.specs.Counters.{AreCounters};
 ghost use Rattle.rec_check.specs.DescribedTexts.{BelongTogether};
 ghost use Rattle.rec_check.specs.Rules.{Rules};
@@ -11,21 +11,19 @@ ghost use Rattle.rec_check.specs.Stored.{described};
 ghost use Rattle.rec_check.specs.Violations.{names_of};
 ghost use Rattle.rec_check.specs.Walking.{AreWithin};
 ghost use Rattle.rec_edit.specs.Automatic.{AreFilled};
-ghost use Rattle.rec_edit.specs.proving.Drafts.{AreRanges};
-ghost use Rattle.rec_edit.specs.proving.Files.{AreFilledIn, AreFilledMembersIn, IsSetIn};
-ghost use Rattle.rec_edit.specs.proving.Filling.{numbered, filled_of, ranges_of, AreNamesOf, IsGiven, IsRefused, FillsMore};
+ghost use Rattle.rec_edit.specs.proving.Files.{AreFilledIn, AreFilledSetIn, IsSetIn};
+ghost use Rattle.rec_edit.specs.proving.Filling.{numbered, filled_of, AreNamesOf, IsGiven, IsRefused, FillsMore};
 
 use crate::automatic::numbered::{NumberedField, give};
-use rec_check::{Counter, RecFile};
+use rec_check::{Counter, RecFile, Set_};
 use rec_text::{Element, Fault, Refusal, elements_in};
-use std::alloc::Global;
+use std::alloc::{AllocError, Global};
 use std::collections::HashSet;
 use std::ops::Range;
 
-/// A record, and the automatic fields that are put first in it.
+/// The automatic fields that are put first in a record.
 #[derive(Drop)]
 pub(crate) struct FilledRecord<'s> {
-    pub range: Range<usize>,
     pub given: Vec<NumberedField<'s>>,
 }
 
@@ -83,13 +81,29 @@ fn fill_records<'s, 't>(
     for record in records {
         let fields = elements_in(elements, record);
         let given = fill_record(alloc, counters, &mut names, fields)?;
-        let range = record.start..record.end;
-        filled.push(FilledRecord { range, given })?;
+        filled.push(FilledRecord { given })?;
     }
     Ok(())
 }
 
-/// Fills the records of the set at this place.
+/// A descriptor is given none.
+fn fill_head<'s>(
+    alloc: Global,
+    set: &Set_,
+    filled: &mut Vec<FilledRecord<'s>>,
+) -> Result<(), AllocError>
+    ensures { OnOk result
+        (filled_of filled.new.items ≡ filled_of filled.old.items ++ map (λ _. []) (option_to_list set.now.head)) }
+{
+    if set.head.is_some() {
+        filled.push(FilledRecord {
+            given: Vec::new(alloc),
+        })?;
+    }
+    Ok(())
+}
+
+/// Fills the records of the set at this place, its descriptor among them.
 fn fill_set<'s>(
     alloc: Global,
     file: &'s RecFile<'_>,
@@ -97,25 +111,25 @@ fn fill_set<'s>(
     filled: &mut Vec<FilledRecord<'s>>,
 ) -> Result<(), Refusal>
     requires { place < length (described file.now.schema).sets }
-    ensures filled { (records : List (Range ℕ)) (s : Set_) (rules : Rules) → IsSetIn file.now place records s rules
-        → OnOk result (FillsMore (AreFilledMembersIn file.now records s rules) filled.old.items filled.new.items) }
-    ensures refused { (records : List (Range ℕ)) (s : Set_) (rules : Rules) → IsSetIn file.now place records s rules
-        → IfErr result (λ fault. IsMemoryOr fault (AreFilledMembersIn file.now records s rules (Err fault))) }
+    ensures filled { (records : List (Range ℕ)) (s : SetOf) (rules : Rules) → IsSetIn file.now place records s rules
+        → OnOk result (FillsMore (AreFilledSetIn file.now records s rules) filled.old.items filled.new.items) }
+    ensures refused { (records : List (Range ℕ)) (s : SetOf) (rules : Rules) → IsSetIn file.now place records s rules
+        → IfErr result (λ fault. IsMemoryOr fault (AreFilledSetIn file.now records s rules (Err fault))) }
 {
     let (database, schema) = (file.database(), file.schema());
+    fill_head(alloc, &schema.sets()[place], filled)?;
     let mut counters = schema.counters(alloc, database, place)?;
     let records = schema.members(database, place);
     fill_records(alloc, &mut counters, database.elements(), records, filled)
 }
 
-/// All records but the descriptors, set by set, each with the automatic fields that it lacks.
+/// What each record is given, set by set: the automatic fields that it lacks.
 pub(crate) fn filled_records<'s>(
     alloc: Global,
     file: &'s RecFile<'_>,
 ) -> Result<Vec<FilledRecord<'s>>, Refusal>
     ensures filled { IfOk result (λ filled. AreFilledIn file.now (Ok (filled_of filled.items))) }
     ensures refused { IfErr result (λ fault. IsMemoryOr fault (AreFilledIn file.now (Err fault))) }
-    ensures ranges { IfOk result (λ filled. AreRanges (length file.now.pieces) (ranges_of (filled_of filled.items))) }
     ensures together { BelongTogether file.now }
 {
     let mut filled = Vec::new(alloc);

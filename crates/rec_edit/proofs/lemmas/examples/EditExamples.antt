@@ -7,21 +7,21 @@ use Rattle.rec_edit.specs.declared.request.Action.{Action}
 use Rattle.rec_edit.specs.declared.request.Action.TheVariants.{Set, Add, SetAdd, Rename, Delete, Comment as CommentFields}
 use Rattle.rec_edit.specs.Task.{Pair}
 use Rattle.rec_edit.specs.proving.Changes.{hunks_of}
-use Rattle.rec_edit.specs.Rules.{fields_of, deletion, commenting, replacement, setting}
+use Rattle.rec_edit.specs.Rules.{fields_of, deleted, commented, replaced, edited}
 use Rattle.rec_edit.specs.Outcome.{EditScript}
 use Rattle.rec_edit.proofs.lemmas.examples.WordingExamples.{over, shown, expected, hunk, pair, every, nth}
 
 abbrev delete : List ℕ → List ℕ → EditScript
-delete = over deletion
+delete = over deleted
 
 abbrev comment_out : List ℕ → List ℕ → EditScript
-comment_out = over (λ pieces chosen. commenting chosen)
+comment_out = over commented
 
 abbrev replace : List Pair → List ℕ → List ℕ → EditScript
-replace pairs = over (λ pieces chosen. replacement (fields_of pairs) chosen)
+replace pairs = over (replaced (fields_of pairs))
 
 abbrev set : List Item → Action → List ℕ → List ℕ → EditScript
-set items action = over (setting action items)
+set items action = over (edited action items)
 
 abbrev one_line : List ℕ
 one_line = codes "A: 1\n"

@@ -1,5 +1,5 @@
 -- New records and automatic fields at small texts: each example computes, or has its witness.
-use Rattle.std.proofs.Common.{◌≡◌, ℕ, pos, negsuc, true, false, inl, inr, List, [], ◌∷◌, ◌++◌, map, Option, Some, None, Ok, Err, refl}
+use Rattle.std.proofs.Common.{◌≡◌, ℕ, pos, negsuc, true, false, inl, inr, List, [], ◌∷◌, ◌++◌, Option, Some, None, Ok, Err, refl}
 use Rattle.std.specs.Fmt.{digits}
 use Rattle.std.specs.Prelude.{codes}
 use Rattle.rec_text.specs.declared.fault.Fault.TheVariants.{AutoImpossible}
@@ -15,16 +15,15 @@ use Rattle.rec_check.proofs.lemmas.automatic.CounterLemmas.{greatest_is}
 use Rattle.rec_check.proofs.lemmas.SetLemmas.{set_of}
 use Rattle.rec_edit.specs.proving.Changes.{hunks_of}
 use Rattle.rec_edit.specs.Rules.{fields_of}
-use Rattle.rec_edit.specs.Insertions.{Numbered, Filled, numbered_fields, filling}
+use Rattle.rec_edit.specs.Insertions.{insertion_for, Numbered, numbered_fields, fields_at, filled}
 use Rattle.rec_edit.specs.Automatic.{AreAutomatic, AreFilled, AreFilledSets, lacking}
-use Rattle.rec_edit.specs.Outcome.{EditScript}
-use Rattle.rec_edit.specs.proving.Edits.{edit_script_for, insert_script}
+use Rattle.rec_edit.specs.Outcome.{EditScript, made_of, put_in}
 use Rattle.rec_edit.proofs.lemmas.examples.WordingExamples.{elements, records_of, AreRecords-records_of, sets_of, shown, expected, hunk, pair}
 
 -- ---- the place of a new record
 
 abbrev insert_pieces : Option (List ℕ) → List Piece → List ℕ → EditScript
-insert_pieces record_type fields text = insert_script (elements text) (records_of (elements text)) (sets_of (elements text)) record_type fields
+insert_pieces record_type fields text = put_in (insertion_for (elements text) (records_of (elements text)) (sets_of (elements text)) record_type fields) (elements text)
 
 abbrev insert : Option (List ℕ) → List ℕ → List ℕ → List ℕ → EditScript
 insert record_type name value = insert_pieces record_type (fields_of (pair name value ∷ []))
@@ -211,50 +210,55 @@ some_lack = codes "%rec: P\n%auto: Id\n\nN: a\n\nId: 4\n\nN: b\n"
 abbrev untyped_counting : Rules
 untyped_counting = record no_rules { automatic = id ∷ [] }
 
-abbrev filling_in : ℕ → ℕ → List Numbered → Filled
-filling_in start end given = record { range = range start end; given = given }
+-- from the third record of the set on, from the second on, all its records, and all records
+abbrev given_last : List (List Numbered)
+given_last = (numbered 6 ∷ []) ∷ []
 
--- from the third record of the set on, from the second on, and all
-abbrev filled_last : List Filled
-filled_last = filling_in 7 8 (numbered 6 ∷ []) ∷ []
+abbrev given_later : List (List Numbered)
+given_later = [] ∷ given_last
 
-abbrev filled_later : List Filled
-filled_later = filling_in 5 6 [] ∷ filled_last
+abbrev given_to_set : List (List Numbered)
+given_to_set = (numbered 5 ∷ []) ∷ given_later
 
-abbrev filled : List Filled
-filled = filling_in 3 4 (numbered 5 ∷ []) ∷ filled_later
+abbrev given_to_all : List (List Numbered)
+given_to_all = [] ∷ given_to_set
 
--- the first gets one more than the greatest of all, the second has its own, and the third gets one more than the first
-all_are_filled : AreFilledSets (elements some_lack) (records_of (elements some_lack)) (sets_of (elements some_lack)) (no_rules ∷ untyped_counting ∷ []) (Ok filled)
+-- The descriptor gets none. The first record gets one more than the greatest of all, the second has its own, and the third gets one
+-- more than the first.
+all_are_filled : AreFilledSets (elements some_lack) (records_of (elements some_lack)) (sets_of (elements some_lack)) (no_rules ∷ untyped_counting ∷ []) (Ok given_to_all)
 unfolding runs_from narrowed_from
 all_are_filled =
     inr (
       [],
-      refl,
+      inr ([], refl, refl),
       inr (
-        filled,
+        given_to_all,
         inr (
-          filled,
+          given_to_all,
           inr (
-            numbered 5 ∷ [],
-            inr (pos 5, (refl, inr (pos 4, greatest_is (pos 4 ∷ []) (pos 4) refl, refl, refl)), inr ([], refl, refl)),
+            given_to_set,
             inr (
-              filled_later,
+              numbered 5 ∷ [],
+              inr (pos 5, (refl, inr (pos 4, greatest_is (pos 4 ∷ []) (pos 4) refl, refl, refl)), inr ([], refl, refl)),
               inr (
-                [],
-                refl,
+                given_later,
                 inr (
-                  filled_last,
-                  inr (
-                    numbered 6 ∷ [],
-                    inr (pos 6, (refl, inr (pos 5, greatest_is (pos 5 ∷ pos 4 ∷ []) (pos 5) refl, refl, refl)), inr ([], refl, refl)),
-                    inr ([], refl, refl),
-                  ),
+                  [],
                   refl,
+                  inr (
+                    given_last,
+                    inr (
+                      numbered 6 ∷ [],
+                      inr (pos 6, (refl, inr (pos 5, greatest_is (pos 5 ∷ pos 4 ∷ []) (pos 5) refl, refl, refl)), inr ([], refl, refl)),
+                      inr ([], refl, refl),
+                    ),
+                    refl,
+                  ),
                 ),
+                refl,
               ),
-              refl,
             ),
+            refl,
           ),
           inr ([], refl, refl),
         ),
@@ -262,12 +266,14 @@ all_are_filled =
       ),
     )
 
-filled_text : shown some_lack (edit_script_for None (elements some_lack) (map (λ one. one.range) filled) (filling filled))
-    ≡ expected (codes "%rec: P\n%auto: Id\n\nId: 5\nN: a\n\nId: 4\n\nId: 6\nN: b\n") 2
+abbrev fill : List (List Numbered) → List ℕ → EditScript
+fill given text = made_of None (λ k. true) (λ k. filled (fields_at given k)) (elements text) (records_of (elements text))
+
+filled_text : shown some_lack (fill given_to_all some_lack) ≡ expected (codes "%rec: P\n%auto: Id\n\nId: 5\nN: a\n\nId: 4\n\nId: 6\nN: b\n") 2
 unfolding runs_from narrowed_from digits
 filled_text = refl
 
-filled_hunks : hunks_of (edit_script_for None (elements some_lack) (map (λ one. one.range) filled) (filling filled)).script ≡ hunk 19 [] (codes "Id: 5\n") ∷ hunk 32 [] (codes "Id: 6\n") ∷ []
+filled_hunks : hunks_of (fill given_to_all some_lack).script ≡ hunk 19 [] (codes "Id: 5\n") ∷ hunk 32 [] (codes "Id: 6\n") ∷ []
 unfolding runs_from narrowed_from digits
 filled_hunks = refl
 
@@ -285,18 +291,17 @@ no_counter = inl (AutoImpossible, inl (AutoImpossible, inl refl, refl), refl)
 abbrev negative : List ℕ
 negative = codes "%rec: P\n%auto: Id\n\nId: -5\n\nN: a"
 
-abbrev filled_negative : List Filled
-filled_negative = filling_in 5 6 (record { name = id; number = negsuc 3 } ∷ []) ∷ []
+abbrev given_negative : List Numbered
+given_negative = record { name = id; number = negsuc 3 } ∷ []
 
-after_negative : AreFilled (elements negative) untyped_counting (λ name. negsuc 4 ∷ []) (range 5 6 ∷ []) (Ok filled_negative)
+after_negative : AreFilled (elements negative) untyped_counting (λ name. negsuc 4 ∷ []) (range 5 6 ∷ []) (Ok (given_negative ∷ []))
 unfolding runs_from narrowed_from
 after_negative = inr (
-  record { name = id; number = negsuc 3 } ∷ [],
+  given_negative,
   inr (negsuc 3, (refl, inr (negsuc 4, greatest_is (negsuc 4 ∷ []) (negsuc 4) refl, refl, refl)), inr ([], refl, refl)),
   inr ([], refl, refl),
 )
 
-negative_text : shown negative (edit_script_for None (elements negative) (map (λ one. one.range) filled_negative) (filling filled_negative))
-    ≡ expected (codes "%rec: P\n%auto: Id\n\nId: -5\n\nId: -4\nN: a") 1
+negative_text : shown negative (fill ([] ∷ [] ∷ given_negative ∷ []) negative) ≡ expected (codes "%rec: P\n%auto: Id\n\nId: -5\n\nId: -4\nN: a") 1
 unfolding runs_from narrowed_from digits
 negative_text = refl

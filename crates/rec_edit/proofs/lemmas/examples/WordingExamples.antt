@@ -1,6 +1,5 @@
 -- Edits of small texts: the edited texts, and what they mean for the records. Each example computes.
-use Rattle.std.proofs.Common.{ℕ, ◌+◌, ◌==◌, Bool, true, ◌&&◌, List, [], ◌∷◌, length, take, drop, filter_map, slice_get, Option, Some, None, if◌then◌else◌, ◌≡◌, false, inl, inr, map, Ok, Err, refl, ap}
-use Rattle.std.proofs.Common.{arith, lit≤}
+use Rattle.std.proofs.Common.{ℕ, ◌+◌, ◌==◌, Bool, true, ◌&&◌, List, [], ◌∷◌, length, take, drop, Option, Some, None, if◌then◌else◌, ◌≡◌, false, inl, inr, map, Ok, Err, refl, ap, arith, lit≤}
 use Rattle.std.specs.List.{list_all}
 use Rattle.std.specs.Option.{option_map_or}
 use Rattle.std.specs.Str.{bytes_eq}
@@ -18,16 +17,17 @@ use Rattle.rec_check.specs.Descriptors.{types_of}
 use Rattle.rec_journal.specs.declared.patch.Hunk.{Hunk}
 use Rattle.rec_sex.specs.declared.lists.field_list.Item.{Item}
 use Rattle.rec_edit.specs.Task.{Pair, of_pairs, of_text}
-use Rattle.rec_edit.specs.Script.{Layout, old_pieces, new_pieces, edited_text, closed}
-use Rattle.rec_edit.specs.Outcome.{EditScript, allowed}
-use Rattle.rec_edit.specs.proving.Edits.{edit_script, insert_script}
+use Rattle.rec_edit.specs.Script.{Part, old_pieces, new_pieces, edited_text, closed}
+use Rattle.rec_edit.specs.Outcome.{put_in, EditScript, allowed, made_of}
+use Rattle.rec_edit.specs.Insertions.{insertion_for}
 use Rattle.rec_text.specs.declared.fault.Fault.TheVariants.{BadFieldList, NoSelection, BadName, BadValue, BadRecord}
 use Rattle.rec_sex.specs.Lists.{AreItems}
 use Rattle.rec_select.specs.Selection.{all, at_places, with_text, with_value}
 use Rattle.rec_edit.specs.declared.request.Action.TheVariants.{Set, Add, SetAdd, Rename, Delete, Comment as CommentFields}
 use Rattle.rec_edit.specs.Wording.{AreItemsFor, IsNewRecord}
 use Rattle.rec_edit.specs.declared.request.Action.{Action}
-use Rattle.rec_edit.specs.Rules.{fields_of, deletion, commenting, replacement, setting}
+use Rattle.rec_edit.specs.Blocks.{Block, is_selected}
+use Rattle.rec_edit.specs.Rules.{fields_of, deleted as is_deleted, commented as is_commented, replaced as is_replaced, edited}
 use Rattle.rec_edit.specs.Effect.{TypedRecord, typed_records, remade, with_fields, with_new}
 use Rattle.rec_text.proofs.lemmas.records.RunLemmas.{AreRuns-runs_to}
 use Rattle.rec_text.proofs.lemmas.records.RecordLemmas.{AreRecords-all_narrowed}
@@ -77,10 +77,6 @@ records_of pieces = all_narrowed (is_field_at pieces) (runs_to (is_full_at piece
 pub AreRecords-records_of : (pieces : List Piece) → AreRecords pieces (records_of pieces)
 AreRecords-records_of pieces = AreRecords-all_narrowed pieces (runs_to (is_full_at pieces) (length pieces) 0) (AreRuns-runs_to (is_full_at pieces) (length pieces))
 
--- the records of these indexes
-abbrev pub chosen_of : List ℕ → List Piece → List (Range ℕ)
-chosen_of indexes pieces = filter_map (slice_get (records_of pieces)) indexes
-
 -- the sets of records that name these types, the first of which has this index; one is begun
 abbrev pub sets_from : ℕ → Option (List ℕ) → Option ℕ → ℕ → List (Option (List ℕ)) → List Set_
 sets_from i record_type head start [] = set_of record_type head start i ∷ []
@@ -92,9 +88,9 @@ sets_of pieces = sets_from 0 None None 0 (types_of pieces (records_of pieces))
 
 -- ---- what a step makes of a text
 
--- the step by a layout for these records of the text
-abbrev pub over : (List Piece → List (Range ℕ) → Layout) → List ℕ → List ℕ → EditScript
-over layout indexes text = edit_script (elements text) (chosen_of indexes (elements text)) (layout (elements text) (chosen_of indexes (elements text)))
+-- the step that makes this of the records of these indexes
+abbrev pub over : (Block → List Part) → List ℕ → List ℕ → EditScript
+over made indexes text = made_of (Some (length indexes)) (is_selected indexes) (λ k. made) (elements text) (records_of (elements text))
 
 -- the text after it and how many records it changes; and its old and new elements are those of the two texts
 abbrev pub Shown : Type 0
@@ -237,25 +233,25 @@ all_typed text = typed_records None (map (λ own_range. map closed (elements_in 
 abbrev untidy : List ℕ
 untidy = codes "# h\nA: 1\n# c\nB: x\\\ny\n# t\n\n%rec: P\n\nA: 1\nA:2\n\n \nB:\n+ z\n# c\nA: 3"
 
-deleted : all_typed (edited_text (over deletion (0 ∷ 3 ∷ []) untidy).script) ≡ remade (0 ∷ 3 ∷ []) (λ own. []) (all_typed untidy)
+deleted : all_typed (edited_text (over is_deleted (0 ∷ 3 ∷ []) untidy).script) ≡ remade (0 ∷ 3 ∷ []) (λ own. []) (all_typed untidy)
 unfolding runs_from narrowed_from
 deleted = refl
 
-commented_out : all_typed (edited_text (over (λ pieces chosen. commenting chosen) (0 ∷ 3 ∷ []) untidy).script) ≡ remade (0 ∷ 3 ∷ []) (λ own. []) (all_typed untidy)
+commented_out : all_typed (edited_text (over is_commented (0 ∷ 3 ∷ []) untidy).script) ≡ remade (0 ∷ 3 ∷ []) (λ own. []) (all_typed untidy)
 unfolding runs_from narrowed_from
 commented_out = refl
 
 abbrev fresh : List Piece
 fresh = fields_of (pair (codes "C") (codes "a\nb") ∷ pair (codes "D") [] ∷ [])
 
-replaced : all_typed (edited_text (over (λ pieces chosen. replacement fresh chosen) (0 ∷ 3 ∷ []) untidy).script) ≡ remade (0 ∷ 3 ∷ []) (λ own. fresh) (all_typed untidy)
+replaced : all_typed (edited_text (over (is_replaced fresh) (0 ∷ 3 ∷ []) untidy).script) ≡ remade (0 ∷ 3 ∷ []) (λ own. fresh) (all_typed untidy)
 unfolding runs_from narrowed_from
 replaced = refl
 
 -- ---- fields
 
 abbrev IsMeant : Action → List Item → List ℕ → Type 0
-IsMeant action items indexes = all_typed (edited_text (over (setting action items) indexes untidy).script) ≡ remade indexes (with_fields action items) (all_typed untidy)
+IsMeant action items indexes = all_typed (edited_text (over (edited action items) indexes untidy).script) ≡ remade indexes (with_fields action items) (all_typed untidy)
 
 set_fields : IsMeant (Set (codes "9")) (every (codes "A") ∷ every (codes "B") ∷ []) (0 ∷ 2 ∷ 3 ∷ [])
 unfolding runs_from narrowed_from
@@ -285,7 +281,7 @@ commented_fields = refl
 -- ---- a new record
 
 abbrev IsInserted : Option (List ℕ) → List ℕ → Type 0
-IsInserted record_type text = all_typed (edited_text (insert_script (elements text) (records_of (elements text)) (sets_of (elements text)) record_type fresh).script)
+IsInserted record_type text = all_typed (edited_text (put_in (insertion_for (elements text) (records_of (elements text)) (sets_of (elements text)) record_type fresh) (elements text)).script)
     ≡ with_new (sets_of (elements text)) record_type fresh (all_typed text)
 
 untyped : IsInserted None untidy

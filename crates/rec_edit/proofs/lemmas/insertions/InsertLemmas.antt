@@ -1,7 +1,7 @@
 -- A record that is put in: what is laid, its typed record and descriptors, and that it is the last of its set.
-use Rattle.std.proofs.Common.{◌≡◌, ◌∙◌, ℕ, ◌+◌, ◌≤◌, ◌==◌, List, [], ◌∷◌, ◌++◌, length, map, refl, ap, ap₂, sym, inl, inr, arith, suc, true, Some, None, Bool, cond, Option, Ok, take, subst}
+use Rattle.std.proofs.Common.{◌≡◌, ◌∙◌, ℕ, ◌+◌, List, [], ◌∷◌, ◌++◌, length, map, refl, ap, ap₂, sym, inl, inr, arith, suc, true, Some, None, Bool, cond, Option, Ok, take, subst, drop}
 use Rattle.std.specs.List.{AllByRecursion, position_or_len}
-use Rattle.std.proofs.lemmas.Bool.{cases_Bool, cond_both, eqb-true, eqb-false, le-ltb}
+use Rattle.std.proofs.lemmas.Bool.{cases_Bool, le-ltb}
 use Rattle.std.proofs.lemmas.List.{map-append, append-nil, drop_at, take_at, length-append, length-map, nil_from_length}
 use Rattle.std.specs.Prelude.{filter, is_some, if◌then◌else◌, find, position}
 use Rattle.std.specs.declared.ops.Range.{Range}
@@ -9,10 +9,9 @@ use Rattle.std.proofs.lemmas.List.Folds.{find_at}
 use Rattle.std.proofs.lemmas.Option.{slice_get_cases}
 use Rattle.rec_text.specs.Elements.{Piece, IsElement, AreElementsOf, text_of}
 use Rattle.rec_text.proofs.lemmas.FaultLemmas.{same_value}
-use Rattle.rec_edit.specs.Script.{closed, new_pieces, edited_text}
-use Rattle.rec_edit.specs.proving.Parts.{parts_from, script_of}
+use Rattle.rec_edit.specs.Script.{closed, new_pieces, edited_text, Part}
 use Rattle.rec_edit.specs.proving.Changes.{hunks_of}
-use Rattle.rec_edit.specs.Insertions.{Insertion, inserting, Numbered, insertion_for, numbered_fields}
+use Rattle.rec_edit.specs.Insertions.{Insertion, Numbered, insertion_for, numbered_fields}
 use Rattle.rec_text.specs.Canonical.{is_plain_name}
 use Rattle.rec_check.specs.Descriptors.{rec_name, type_of, types_of}
 use Rattle.rec_check.specs.Soundness.{says, descriptors}
@@ -24,17 +23,12 @@ use Rattle.rec_edit.specs.Task.{Pair, NewRecord, insert}
 use Rattle.rec_edit.specs.Rules.{fields_of}
 use Rattle.rec_edit.specs.Wording.{IsNewRecord}
 use Rattle.rec_edit.specs.Automatic.{AreAutomatic}
-use Rattle.rec_edit.specs.Outcome.{IsEditScript, EditScript}
-use Rattle.rec_edit.specs.proving.Edits.{insert_script}
+use Rattle.rec_edit.specs.Outcome.{IsEditScript, EditScript, put_in}
 use Rattle.rec_text.proofs.lemmas.ListLemmas.{AllByRecursion-weaker}
-use Rattle.rec_edit.proofs.lemmas.scripts.TiedLemmas.{put_in-is}
-use Rattle.rec_edit.proofs.lemmas.scripts.EqualLemmas.{PutsSome, unchanged_by_some}
-use Rattle.rec_edit.proofs.lemmas.records.FitLemmas.{laid_from-kept, own_of-records, records_there}
-use Rattle.rec_edit.proofs.lemmas.scripts.LaidLemmas.{Ends, Ends-closed, LaysNeatly, closed-ends, closed-settled, laid_from, new_pieces-parts_from, parts_reopen, closed-blank, closed-field}
-use Rattle.rec_edit.proofs.lemmas.scripts.LaidLemmas.{map-closed}
-use Rattle.rec_edit.proofs.lemmas.layouts.NeatLemmas.{CanStandFor-kept}
-use Rattle.rec_edit.proofs.lemmas.outcomes.OutcomeLemmas.{element_at, one_list_of_elements}
-use Rattle.rec_edit.proofs.lemmas.scripts.WellFormedLemmas.{LaysWell, new_pieces_are_read, IsClosed}
+use Rattle.rec_edit.proofs.lemmas.records.FitLemmas.{own_of-records, records_there}
+use Rattle.rec_edit.proofs.lemmas.scripts.LaidLemmas.{Ends, closed-blank, closed-field, map-closed}
+use Rattle.rec_edit.proofs.lemmas.outcomes.OutcomeLemmas.{one_list_of_elements}
+use Rattle.rec_edit.proofs.lemmas.scripts.WellFormedLemmas.{IsClosed}
 use Rattle.rec_edit.proofs.lemmas.outcomes.EffectLemmas.{said, closed_owns, elements_part, map-map, said-records, type_of-closed}
 use Rattle.rec_edit.proofs.lemmas.records.TypedRecordLemmas.{type_after-none, own_of-map, own_of}
 use Rattle.rec_edit.proofs.lemmas.records.MemberLemmas.{Named, last_type}
@@ -44,83 +38,12 @@ use Rattle.rec_text.proofs.lemmas.records.RecordLemmas.{one_list_of_records}
 use Rattle.rec_check.proofs.lemmas.laws.SameDescriptorLemmas.{new_descriptor, same_descriptors}
 use Rattle.rec_edit.proofs.lemmas.outcomes.AnswerLemmas.{IsFaithful}
 use Rattle.rec_edit.proofs.lemmas.insertions.PlacedLemmas.{IsPutIn, JoinsSet, OpensSet, typed_placed, untyped_placed}
+use Rattle.rec_edit.proofs.lemmas.blocks.InsertionLemmas.{inserted_is_read, closed-inserted, inserted_quiet, old_pieces-inserted, some-inserted}
 
--- ---- what is laid where elements are put in: the old ones up to the place, the new ones, and the other old ones
+-- ---- the old elements up to the place, the new ones, and the other old ones
 
 pub lines_end : (pieces : List Piece) → AllByRecursion IsClosed pieces → AllByRecursion Ends pieces
 lines_end pieces all = AllByRecursion-weaker IsClosed Ends (λ piece is. is.ends) pieces all
-
-closed-twice : (pieces : List Piece) → map closed (map closed pieces) ≡ map closed pieces
-closed-twice [] = refl
-closed-twice (piece ∷ pieces) = ap₂ (λ p ps. p ∷ ps) (closed-ends (closed piece) (Ends-closed piece)) (closed-twice pieces)
-
-closed-around : (prefix new following : List Piece) → map closed (map closed prefix ++ (new ++ map closed following)) ≡ map closed (prefix ++ (new ++ following))
-closed-around prefix new following =
-    map-append closed (map closed prefix) (new ++ map closed following)
-    ∙ ap₂ (λ some more. some ++ more) (closed-twice prefix)
-    (map-append closed new (map closed following) ∙ ap (λ l. map closed new ++ l) (closed-twice following) ∙ sym (map-append closed new following))
-    ∙ sym (map-append closed prefix (new ++ following))
-
--- an insertion of elements with newlines
-module _ (insertion : Insertion) (lines : AllByRecursion IsClosed insertion.new) where
-  put_there : (i : ℕ) → insertion.place ≡ i → (inserting insertion).put i ≡ insertion.new
-  put_there i here = elim (cases_Bool (insertion.place == i)) [
-    | inl same ↦ rw same refl
-    | inr apart ↦ absurd (eqb-false insertion.place i apart here)
-  ]
-
-  put_elsewhere : (i : ℕ) → (insertion.place ≡ i → ⊥) → (inserting insertion).put i ≡ []
-  put_elsewhere i apart = elim (cases_Bool (insertion.place == i)) [
-    | inl same ↦ absurd (apart (eqb-true insertion.place i same))
-    | inr other ↦ rw other refl
-  ]
-
-  laid_after : (i : ℕ) (pieces : List Piece) → insertion.place ≤ i → laid_from (inserting insertion) i pieces ≡ map closed pieces
-  laid_after i pieces past =
-      laid_from-kept (inserting insertion) i pieces (λ k low high. record { stays = λ piece. refl; alone = put_elsewhere (k + 1) (λ same. absurd (omega (arith, same))) })
-
-  laid_around : (i : ℕ) (prefix following : List Piece) → insertion.place ≡ i + length prefix
-      → (inserting insertion).put i ++ laid_from (inserting insertion) i (prefix ++ following) ≡ map closed prefix ++ (insertion.new ++ map closed following)
-  laid_around i [] following here =
-      let same : insertion.place ≡ i = omega (arith, here) in
-      ap₂ (λ new rest. new ++ rest) (put_there i same) (laid_after i following (omega (arith, same)))
-  laid_around i (piece ∷ prefix) following here =
-      let next : insertion.place ≡ i + 1 + length prefix = omega (arith, here) in
-      ap (λ put. put ++ (closed piece ∷ ((inserting insertion).put (i + 1) ++ laid_from (inserting insertion) (i + 1) (prefix ++ following))))
-      (put_elsewhere i (λ same. absurd (omega (arith, same, here))))
-      ∙ ap (λ l. closed piece ∷ l) (laid_around (i + 1) prefix following next)
-
-  put_lines : (i : ℕ) → AllByRecursion IsClosed ((inserting insertion).put i)
-  put_lines i = cond_both (insertion.place == i) insertion.new [] (AllByRecursion IsClosed) (λ _. lines) (λ _. tt)
-
-  LaysNeatly-inserting : LaysNeatly (inserting insertion)
-  LaysNeatly-inserting = record {
-    unties = λ i. refl;
-    ends = λ i piece ends. (ends, tt);
-    neat = λ i piece neat. (neat, tt);
-    put = λ i. lines_end ((inserting insertion).put i) (put_lines i);
-  }
-
-  -- with their newlines, the new elements of the script are the old ones around those that are put in
-  pub closed-inserted : (prefix following : List Piece) → insertion.place ≡ length prefix
-      → map closed (new_pieces (script_of (inserting insertion) (prefix ++ following))) ≡ map closed (prefix ++ (insertion.new ++ following))
-  closed-inserted prefix following here =
-      closed-settled (parts_from 0 (inserting insertion) (prefix ++ following)) (parts_reopen 0 (inserting insertion) (prefix ++ following) LaysNeatly-inserting)
-      ∙ ap (map closed) (
-      new_pieces-parts_from 0 (inserting insertion) (prefix ++ following) (λ i. refl)
-      ∙ laid_around 0 prefix following (let zeroth : length prefix ≡ 0 + length prefix = omega arith in here ∙ zeroth)
-      )
-      ∙ closed-around prefix insertion.new following
-
-  pub inserting_lays : (pieces : List Piece) → AllByRecursion IsElement pieces → LaysWell 0 (inserting insertion) pieces
-  inserting_lays pieces whole = record {
-    untied = λ _. refl;
-    put = put_lines;
-    becomes = λ k piece at. CanStandFor-kept piece (element_at pieces whole k piece at);
-  }
-
-pub inserting_puts_some : (insertion : Insertion) (pieces : List Piece) → PutsSome (inserting insertion) pieces
-inserting_puts_some insertion pieces k piece at = omega arith
 
 -- ---- records one by one, where one is put among them or a new set stands after them: the typed records, and what the descriptors say
 
@@ -206,8 +129,11 @@ type_of-owns pieces [] all = refl
 type_of-owns pieces (r ∷ records) all = ap₂ (λ t ts. t ∷ ts) (type_of-closed (elements_in pieces r) (elements_part pieces r all)) (type_of-owns pieces records all)
 
 -- the elements of the edited text, and their records
+abbrev script_by : List Piece → Insertion → List Part
+script_by pieces insertion = (put_in insertion pieces).script
+
 abbrev edited : List Piece → Insertion → List Piece
-edited pieces insertion = new_pieces (script_of (inserting insertion) pieces)
+edited pieces insertion = new_pieces (script_by pieces insertion)
 
 abbrev ranges : List Piece → List (Range ℕ)
 ranges pieces = (records_there pieces).0
@@ -233,14 +159,14 @@ module _ (pieces : List Piece) (schema : Described) (elements : AreElementsOf pi
   -- ---- elements that are put in
 
   module _ (insertion : Insertion) (lines : AllByRecursion IsClosed insertion.new) where
-    inserted_is_read : AreElementsOf (edited pieces insertion) (edited_text (script_of (inserting insertion) pieces))
-    inserted_is_read = new_pieces_are_read (inserting insertion) pieces (inserting_lays insertion lines pieces elements.well_formed)
+    is_read : AreElementsOf (edited pieces insertion) (edited_text (script_by pieces insertion))
+    is_read = inserted_is_read insertion.place insertion.new pieces lines elements
 
-    inserted_unchanged : edited_text (script_of (inserting insertion) pieces) ≡ text_of pieces → hunks_of (script_of (inserting insertion) pieces) ≡ []
-    inserted_unchanged same =
-        unchanged_by_some (inserting insertion) pieces (λ k. refl) (one_list_of_elements (text_of pieces) (edited pieces insertion) pieces
-        (subst (AreElementsOf (edited pieces insertion)) same inserted_is_read) elements)
-        (inserting_puts_some insertion pieces)
+    is_quiet : edited_text (script_by pieces insertion) ≡ text_of pieces → hunks_of (script_by pieces insertion) ≡ []
+    is_quiet same =
+        let new : List Piece = edited pieces insertion in
+        inserted_quiet insertion.place insertion.new pieces lines elements
+        (old_pieces-inserted insertion.place insertion.new pieces lines elements ∙ sym (one_list_of_elements (text_of pieces) new pieces (subst (AreElementsOf new) same is_read) elements))
 
     -- the records before those that are put in and the ones after, with their newlines
     around : (count : ℕ) (made : List (List Piece)) → IsPutIn pieces insertion.new insertion.place count made → AreAround pieces records insertion count made
@@ -248,8 +174,14 @@ module _ (pieces : List Piece) (schema : Described) (elements : AreElementsOf pi
         let new : List Piece = edited pieces insertion in
         let prefix : List (List Piece) = map (map closed) (own_of put.prefix) in
         let following : List (List Piece) = map (map closed) (own_of put.following) in
+        let ends : map closed insertion.new ≡ insertion.new = map-closed insertion.new (lines_end insertion.new lines) in
         let parts : map closed new ≡ map closed (put.prefix ++ (insertion.new ++ put.following)) =
-        ap (λ ps. map closed (edited ps insertion)) put.parts ∙ closed-inserted insertion lines put.prefix put.following put.here in
+        closed-inserted insertion.place insertion.new pieces lines elements
+        ∙ ap₂ (λ some more. map closed some ++ (insertion.new ++ map closed more))
+        (ap (take insertion.place) put.parts ∙ take_at put.prefix put.following insertion.place (sym put.here))
+        (ap (drop insertion.place) put.parts ∙ drop_at put.prefix put.following insertion.place (sym put.here))
+        ∙ ap (λ l. map closed put.prefix ++ (l ++ map closed put.following)) (sym ends)
+        ∙ ap (λ l. map closed put.prefix ++ l) (sym (map-append closed insertion.new put.following)) ∙ sym (map-append closed put.prefix (insertion.new ++ put.following)) in
         let before : closed_owns pieces records ≡ prefix ++ following =
         map-map (map closed) (elements_in pieces) records ∙ ap (map (map closed)) (own_of-records pieces records are ∙ put.before)
         ∙ map-append (map closed) (own_of put.prefix) (own_of put.following) in
@@ -277,7 +209,7 @@ module _ (pieces : List Piece) (schema : Described) (elements : AreElementsOf pi
 
   said_after : (insertion : Insertion) → AllByRecursion IsClosed insertion.new
       → descriptors (edited pieces insertion) (ranges (edited pieces insertion)) ≡ said (closed_owns (edited pieces insertion) (ranges (edited pieces insertion)))
-  said_after insertion lines = sym (said-records (edited pieces insertion) (ranges (edited pieces insertion)) (inserted_is_read insertion lines).well_formed)
+  said_after insertion lines = sym (said-records (edited pieces insertion) (ranges (edited pieces insertion)) (is_read insertion lines).well_formed)
 
   -- the descriptors of the edited text are sound, and the new record is the last of its set
   record Inserts (record_type : Option (List ℕ)) (fields : List Piece) (insertion : Insertion) : Type 0 where
@@ -355,25 +287,25 @@ module _ (pieces : List Piece) (schema : Described) (elements : AreElementsOf pi
     fields_put = numbered_fields automatic ++ fields_of pairs
 
     insertion_is_faithful : (insertion : Insertion) → Inserts record_type fields_put insertion
-        → IsFaithful pieces schema (insert record_type fresh auto) (record { script = script_of (inserting insertion) pieces; changed = 1; chosen = None })
+        → IsFaithful pieces schema (insert record_type fresh auto) (put_in insertion pieces)
     insertion_is_faithful insertion done = record {
-      layout = inserting insertion;
-      is = refl;
-      read = inserted_is_read insertion done.lines;
-      unchanged = inserted_unchanged insertion done.lines;
+      old = old_pieces-inserted insertion.place insertion.new pieces done.lines elements;
+      some = some-inserted insertion.place insertion.new pieces done.lines elements;
+      read = is_read insertion done.lines;
+      unchanged = is_quiet insertion done.lines;
       sound = done.sound;
       effect = record {
         before = typed_records None (closed_owns pieces records);
         are_before = (records, are, refl);
         edited = edited pieces insertion;
-        are_edited = inserted_is_read insertion done.lines;
+        are_edited = is_read insertion done.lines;
         after = typed_records None (closed_owns (edited pieces insertion) (ranges (edited pieces insertion)));
         are_after = (ranges (edited pieces insertion), (records_there (edited pieces insertion)).1, refl);
         leads = (pairs, automatic, new, numbered, done.leads);
       };
     }
 
-    insert_is_faithful : IsFaithful pieces schema (insert record_type fresh auto) (insert_script pieces records schema.sets record_type fields_put)
+    insert_is_faithful : IsFaithful pieces schema (insert record_type fresh auto) (put_in (insertion_for pieces records schema.sets record_type fields_put) pieces)
     insert_is_faithful =
         insertion_is_faithful (insertion_for pieces records schema.sets record_type fields_put)
         (inserts record_type fields_put (new_record_can_be_put_in pieces schema record_type fresh auto pairs automatic is new numbered))
@@ -385,6 +317,6 @@ pub faithful_insert : (pieces : List Piece) (schema : Described) (force : Bool) 
 faithful_insert pieces schema force record_type fresh auto edit elements is (inl (fault, refused, e)) = absurd (cc)
 faithful_insert pieces schema force record_type fresh auto edit elements is (inr (pairs, new, inl (fault, refused, e))) = absurd (cc)
 faithful_insert pieces schema force record_type fresh auto edit elements is (inr (pairs, new, inr (automatic, numbered, (records, are, same)))) =
-    subst (IsFaithful pieces schema (insert record_type fresh auto)) (sym (same_value edit (insert_script pieces records schema.sets record_type (numbered_fields automatic ++ fields_of pairs))
-    (put_in-is pieces records schema.sets record_type (numbered_fields automatic ++ fields_of pairs) (Ok edit) same)))
+    subst (IsFaithful pieces schema (insert record_type fresh auto))
+    (sym (same_value edit (put_in (insertion_for pieces records schema.sets record_type (numbered_fields automatic ++ fields_of pairs)) pieces) same))
     (insert_is_faithful pieces schema elements is records are record_type fresh auto pairs automatic new numbered)

@@ -1,6 +1,6 @@
 -- The fields of a new record, the automatic ones too: they can be written, and each record is one of its own.
-use Rattle.std.proofs.Common.{◌≡◌, ℕ, zero, suc, ℤ, pos, negsuc, ◌+◌, ◌<◌, ◌≤◌, ◌/◌, ◌%◌, Bool, true, false, not, ◌==◌, List, [], ◌∷◌, ◌++◌, map, Option, Some, None, Result, Ok, refl, sym, subst, inl}
-use Rattle.std.proofs.Common.{inr, arith, ◌∙◌, length, ap}
+use Rattle.std.proofs.Common.{◌≡◌, ℕ, zero, suc, ℤ, pos, negsuc, ◌+◌, ◌<◌, ◌≤◌, ◌/◌, ◌%◌, Bool, true, false, not, ◌==◌, List, [], ◌∷◌, ◌++◌, map, Option, Some, None, Result, Ok, refl, sym}
+use Rattle.std.proofs.Common.{subst, inl, inr, arith, ◌∙◌, length, ap}
 use Rattle.std.specs.Prelude.{codes, flat_map, nat_lt, position, slice_get, filter, option_to_list}
 use Rattle.std.specs.List.{AllByRecursion, AllZip, cons_option, list_all, list_any}
 use Rattle.std.specs.Str.{bytes_eq}
@@ -38,11 +38,11 @@ use Rattle.rec_check.proofs.lemmas.laws.SameDescriptorLemmas.{schema_apart}
 use Rattle.rec_check.proofs.lemmas.laws.SoundLemmas.{AreSound, AreSound-heads, heads, new_type}
 use Rattle.rec_edit.proofs.lemmas.scripts.LaidLemmas.{closed-neat}
 use Rattle.rec_edit.proofs.lemmas.layouts.NeatLemmas.{AllByRecursion-filter, canonical_neat}
-use Rattle.rec_edit.proofs.lemmas.scripts.WellFormedLemmas.{IsClosed, AllByRecursion-map, canonical_is_closed}
+use Rattle.rec_edit.proofs.lemmas.scripts.WellFormedLemmas.{IsClosed, canonical_is_closed}
 use Rattle.rec_text.proofs.lemmas.values.CanonicalLemmas.{is_field-field_of, value_of-field_of}
 use Rattle.rec_text.proofs.lemmas.values.ValueLemmas.{passes_apart}
 use Rattle.rec_edit.proofs.lemmas.records.TypedRecordLemmas.{type_of-none, kept-field, up_to_field, kept}
-use Rattle.rec_edit.proofs.lemmas.layouts.FieldsLaidLemmas.{plain_canonical}
+use Rattle.rec_edit.proofs.lemmas.layouts.NameLemmas.{plain_canonical}
 use Rattle.rec_edit.proofs.lemmas.outcomes.OutcomeLemmas.{IsWritten, written_by}
 use Rattle.rec_edit.proofs.lemmas.records.FitLemmas.{Cut, Cut-AreRecords, IsOwn}
 
@@ -178,12 +178,6 @@ decimal_is_ordinary n = digits_are_ordinary 64 n [] tt
 pub number_is_foldable : (number : ℤ) → is_foldable 32 (signed_decimal number) ≡ true
 number_is_foldable (pos n) = ordinary_is_foldable 32 (decimal n) refl (decimal_is_ordinary n)
 number_is_foldable (negsuc n) = ordinary_is_foldable 45 (decimal (suc n)) refl (decimal_is_ordinary (suc n))
-
--- the automatic fields of plain names are well formed
-pub numbered_are_closed : (given : List Numbered) → AllByRecursion (λ one. is_plain_name one.name ≡ true) given → AllByRecursion IsClosed (numbered_fields given)
-numbered_are_closed given plain =
-    AllByRecursion-map (λ one. is_plain_name one.name ≡ true) IsClosed (λ one. canonical one.name (signed_decimal one.number))
-    (λ one named. canonical_is_closed one.name (signed_decimal one.number) named (number_is_foldable one.number)) given plain
 
 -- ---- a new record
 
@@ -360,6 +354,15 @@ pub record CanBePutIn (record_type : Option (List ℕ)) (fields : List Piece) : 
   pub some : 0 < length fields
   pub writable : AllByRecursion IsWritable fields
 
+pub new_record_has_fields : (record_type : Option (List ℕ)) (fresh : NewRecord) (pairs : List Pair) → IsNewRecord record_type fresh (Ok pairs) → 0 < length pairs
+new_record_has_fields record_type fresh pairs new =
+    let found = Then-ok (ArePairs fresh)
+    (λ pairs answer. answer ≡ if_writable (option_to_list record_type ++ map (λ pair. pair.name) pairs) (map (λ pair. pair.value) pairs) pairs) pairs new in
+    let given : List Pair = found.0 in
+    let can : IsWritten (option_to_list record_type ++ map (λ pair. pair.name) given) (map (λ pair. pair.value) given) given pairs =
+    written_by (option_to_list record_type ++ map (λ pair. pair.name) given) (map (λ pair. pair.value) given) given pairs _ _ refl refl found.2 in
+    subst (λ (ps : List Pair). 0 < length ps) (sym can.same) (pairs_there fresh given found.1)
+
 pub new_record_can_be_put_in : (pieces : List Piece) (schema : Described) (record_type : Option (List ℕ)) (fresh : NewRecord) (auto : Bool) (pairs : List Pair) (automatic : List Numbered)
     → IsSchema pieces (Ok schema)
     → IsNewRecord record_type fresh (Ok pairs) → AreAutomatic pieces schema record_type auto (map (λ pair. pair.name) pairs) (Ok automatic)
@@ -372,7 +375,7 @@ new_record_can_be_put_in pieces schema record_type fresh auto pairs automatic is
     written_by (option_to_list record_type ++ map (λ pair. pair.name) given) (map (λ pair. pair.value) given) given pairs _ _ refl refl found.2 in
     let names = type_apart record_type (map (λ pair. pair.name) given) can.names_are in
     let own : AllByRecursion IsWritable (fields_of pairs) = subst (λ ps. AllByRecursion IsWritable (fields_of ps)) (sym can.same) (fields_of-writable given names.1 can.values_are) in
-    let count : 0 < length pairs = subst (λ (ps : List Pair). 0 < length ps) (sym can.same) (pairs_there fresh given found.1) in
+    let count : 0 < length pairs = new_record_has_fields record_type fresh pairs new in
     record {
       plain = names.0;
       some = omega (arith, count, length-append (numbered_fields automatic) (fields_of pairs), length-map pairs (λ pair. canonical pair.name pair.value));

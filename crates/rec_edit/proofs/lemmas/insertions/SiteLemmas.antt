@@ -1,53 +1,46 @@
 -- Where a new record is put, and what stands there before and after it.
-use Rattle.std.proofs.Common.{◌≡◌, ◌∙◌, ℕ, ◌+◌, ◌-◌, ◌≤◌, List, [], ◌∷◌, ◌++◌, Option, Some, None, length, map, reverse, take, drop, refl, ap, sym, inl, inr, arith, length-drop, subst, append_assoc}
-use Rattle.std.proofs.Common.{append-nil, true, eqb, if◌then◌else◌, Bool, Ok, Err}
-use Rattle.std.specs.Prelude.{find, position, slice_get, option_and_then, ◌⊎◌}
+use Rattle.std.proofs.Common.{◌≡◌, ◌∙◌, ℕ, ◌+◌, ◌-◌, ◌≤◌, List, [], ◌∷◌, ◌++◌, Option, Some, None, length, map, reverse, take, drop, refl, ap, sym, inl, inr, arith, subst}
+use Rattle.std.proofs.Common.{append_assoc, append-nil, Bool, Ok, ◌<◌, IsTrue}
+use Rattle.std.specs.Prelude.{find, position, slice_get, option_and_then}
 use Rattle.std.specs.List.{position_or_len, prefix_len}
 use Rattle.std.specs.Option.{option_map_or}
 use Rattle.std.specs.declared.ops.Range.{Range}
-use Rattle.std.proofs.lemmas.Bool.{cases_lt, lt-ltb, cases_Bool, cond_both, false≢true}
-use Rattle.std.proofs.lemmas.List.{take_rest, drop-map, take-map, length-map, length-take, length-reverse, map-append, reverse-append}
+use Rattle.std.proofs.lemmas.Bool.{cases_lt, lt-ltb, cond_both}
+use Rattle.std.proofs.lemmas.List.{take_rest, drop-map, take-map, length-map, length-take, length-reverse, map-append, reverse-append, length-append, length-drop}
 use Rattle.std.proofs.lemmas.List.Folds.{find_at}
 use Rattle.std.proofs.lemmas.List.Quantifiers.{position-Some}
 use Rattle.std.proofs.lemmas.List.Sums.{position_or_len_is, prefix_len-le-length}
 use Rattle.std.proofs.lemmas.Option.{slice_get_past}
-use Rattle.std.specs.Str.{bytes_eq}
 use Rattle.std.specs.Fmt.{signed_decimal}
 use Rattle.rec_text.specs.declared.element.Element.{Element}
 use Rattle.rec_text.specs.Elements.{Piece, text_of}
 use Rattle.rec_text.specs.Places.{piece_of, pieces_of}
 use Rattle.rec_check.specs.declared.set.Set_.{Set_}
 use Rattle.rec_check.specs.Sets.{is_of_type}
-use Rattle.rec_edit.specs.Insertions.{Insertion, is_full, paragraph_start, paragraph_end, after_paragraph, before_paragraph, last_of, range_of, at_end, untyped_insertion, insertion_for, inserting}
+use Rattle.rec_edit.specs.Insertions.{Insertion, is_full, paragraph_start, paragraph_end, after_paragraph, before_paragraph, last_of, range_of, at_end, untyped_insertion, insertion_for}
 use Rattle.rec_edit.specs.Insertions.{Numbered, numbered_fields}
-use Rattle.rec_text.specs.Records.{AreRecords}
+use Rattle.rec_text.specs.Records.{AreRecords, is_full_at}
 use Rattle.rec_edit.specs.declared.insertion.site.Gap.{Gap}
 use Rattle.rec_edit.specs.declared.insertion.site.Gap.TheVariants.{Absent, Before, After}
 use Rattle.rec_edit.specs.declared.insertion.site.Site.{Site}
 use Rattle.rec_edit.specs.Task.{Pair, NewRecord, insert}
 use Rattle.rec_edit.specs.Rules.{fields_of, canonical, empty_line}
-use Rattle.rec_edit.specs.proving.Sites.{empty_line_before, empty_line_after, around, placed, heading, Begins, IsPut, IsRecordPut, block}
+use Rattle.rec_edit.specs.proving.Sites.{empty_line_before, empty_line_after, around, placed, heading, Begins, IsPut, IsRecordPut, AreSome}
 use Rattle.rec_text.specs.Bytes.{ends_newline}
-use Rattle.rec_journal.specs.declared.patch.Hunk.{Hunk}
 use Rattle.rec_edit.specs.declared.outcome.Patched.{Patched}
-use Rattle.rec_edit.specs.Script.{Part, Layout, closed, opened, lacks_newline, settled, new_pieces, changes_from, edited_text}
-use Rattle.rec_edit.specs.proving.Parts.{putting, parts_from, script_of}
-use Rattle.rec_edit.specs.proving.Changes.{merged, real_changes, hunks_of}
-use Rattle.rec_edit.specs.proving.Drafts.{LaysLines}
-use Rattle.rec_text.specs.declared.fault.Fault.{Fault}
-use Rattle.rec_text.specs.Faults.{IsMemoryOr}
 use Rattle.rec_check.specs.Descriptors.{rec_name}
 use Rattle.rec_check.specs.Schemas.{Described}
 use Rattle.rec_edit.specs.Wording.{IsNewRecord}
-use Rattle.rec_edit.specs.Automatic.{AreAutomatic}
 use Rattle.rec_edit.specs.proving.Given.{IsAutomaticText}
-use Rattle.rec_edit.specs.proving.Edits.{IsCarriedOut, edited_by, insert_script}
+use Rattle.rec_edit.specs.proving.Edits.{IsCarriedOut, edited_by}
 use Rattle.rec_text.proofs.lemmas.elements.ElementLemmas.{text_of-append}
-use Rattle.rec_text.proofs.lemmas.elements.FieldLemmas.{ends_newline-append}
-use Rattle.rec_edit.proofs.lemmas.scripts.TiedLemmas.{put_in}
-use Rattle.rec_edit.proofs.lemmas.scripts.LaidLemmas.{AreEnded, AreEnded-append, canonical-ends}
-use Rattle.rec_edit.proofs.lemmas.scripts.WellFormedLemmas.{parts_from-cons}
-use Rattle.rec_text.proofs.lemmas.FaultLemmas.{memory_or_weaker}
+use Rattle.rec_text.proofs.lemmas.ListLemmas.{AllByRecursion-append, AllByRecursion-slice_get}
+use Rattle.rec_edit.specs.Outcome.{put_in}
+use Rattle.rec_edit.specs.proving.Drafts.{AreLines, AreRanges}
+use Rattle.rec_edit.proofs.lemmas.layouts.NeatLemmas.{canonical_ends}
+use Rattle.rec_edit.proofs.lemmas.blocks.LayingLemmas.{ranges_of_records}
+use Rattle.rec_edit.proofs.lemmas.blocks.ReplacementLemmas.{AreLines-fields}
+use Rattle.rec_edit.proofs.lemmas.insertions.NewRecordLemmas.{new_record_has_fields}
 
 -- ---- where a new record is put: beside which record, and at which end of its paragraph
 
@@ -170,237 +163,97 @@ IsRecordPut-text pieces sets record_type site automatic pairs old begun given fi
       subst (IsPut site.place whole) (sym (begins.is (fields ++ own))) put;
 }
 
--- ---- what is put in is known by its text: insertions of the same text are the same edit
-
--- ---- parts of the same texts
-
--- the parts are the same, or put in the same text
-abbrev AreAlike : Part → Part → Type 0
-AreAlike part other = (part ≡ other) ⊎ ((part.old ≡ []) × (other.old ≡ []) × (text_of part.new ≡ text_of other.new))
-
-abbrev AllAlike : List Part → List Part → Type 0
-AllAlike [] [] = Unit {0}
-AllAlike (part ∷ parts) (other ∷ others) = AreAlike part other × AllAlike parts others
-AllAlike _ _ = ⊥
-
--- the last part, settled
-abbrev last_settled : Part → Part
-last_settled part = if lacks_newline (text_of part.old) then record { old = part.old; new = opened part.new } else part
-
-settled-put : (part : Part) → part.old ≡ [] → last_settled part ≡ part
-settled-put part none = rw none refl
-
-last_alike : (part other : Part) → AreAlike part other → AreAlike (last_settled part) (last_settled other)
-last_alike part other (inl same) = inl (ap last_settled same)
-last_alike part other (inr (none, none_too, text)) =
-    inr (
-      ap (λ (p : Part). p.old) (settled-put part none) ∙ none,
-      ap (λ (p : Part). p.old) (settled-put other none_too) ∙ none_too,
-      ap (λ (p : Part). text_of p.new) (settled-put part none) ∙ text ∙ sym (ap (λ (p : Part). text_of p.new) (settled-put other none_too)),
-    )
-
-settled_alike : (parts others : List Part) → AllAlike parts others → AllAlike (settled parts) (settled others)
-settled_alike [] [] alike = tt
-settled_alike [] (other ∷ others) alike = absurd alike
-settled_alike (part ∷ []) [] alike = absurd alike
-settled_alike (part ∷ next ∷ parts) [] alike = absurd alike
-settled_alike (part ∷ []) (other ∷ []) alike = (last_alike part other alike.0, tt)
-settled_alike (part ∷ []) (other ∷ more ∷ others) alike = absurd alike.1
-settled_alike (part ∷ next ∷ parts) (other ∷ []) alike = absurd alike.1
-settled_alike (part ∷ next ∷ parts) (other ∷ more ∷ others) alike = (alike.0, settled_alike (next ∷ parts) (more ∷ others) alike.1)
-
-old_text : (part other : Part) → AreAlike part other → text_of part.old ≡ text_of other.old
-old_text part other (inl same) = ap (λ (p : Part). text_of p.old) same
-old_text part other (inr (none, none_too, text)) = ap text_of (none ∙ sym none_too)
-
-new_text : (part other : Part) → AreAlike part other → text_of part.new ≡ text_of other.new
-new_text part other (inl same) = ap (λ (p : Part). text_of p.new) same
-new_text part other (inr (none, none_too, text)) = text
-
--- a change of these texts, before others
-abbrev changing_to : ℕ → List ℕ → List ℕ → List Hunk → List Hunk
-changing_to at old new hunks = if bytes_eq old new then hunks else record { at = at; old = old; new = new } ∷ hunks
-
-same_changes : (at : ℕ) (parts others : List Part) → AllAlike parts others → changes_from at parts ≡ changes_from at others
-same_changes at [] [] alike = refl
-same_changes at [] (other ∷ others) alike = absurd alike
-same_changes at (part ∷ parts) [] alike = absurd alike
-same_changes at (part ∷ parts) (other ∷ others) alike =
-    let old = old_text part other alike.0 in
-    ap (λ t. changing_to at t (text_of part.new) (changes_from (at + length t) parts)) old
-    ∙ ap (λ t. changing_to at (text_of other.old) t (changes_from (at + length (text_of other.old)) parts)) (new_text part other alike.0)
-    ∙ ap (changing_to at (text_of other.old) (text_of other.new)) (same_changes (at + length (text_of other.old)) parts others alike.1)
-
-same_edited : (parts others : List Part) → AllAlike parts others → edited_text parts ≡ edited_text others
-same_edited [] [] alike = refl
-same_edited [] (other ∷ others) alike = absurd alike
-same_edited (part ∷ parts) [] alike = absurd alike
-same_edited (part ∷ parts) (other ∷ others) alike =
-    text_of-append part.new (new_pieces parts) ∙ ap (λ t. t ++ edited_text parts) (new_text part other alike.0)
-    ∙ ap (λ t. text_of other.new ++ t) (same_edited parts others alike.1) ∙ sym (text_of-append other.new (new_pieces others))
-
--- ---- the same text in other elements
-
--- none of the elements, or some with the same text
-abbrev pub PutAlike : List Piece → List Piece → Type 0
-PutAlike [] [] = Unit {0}
-PutAlike (piece ∷ new) (other ∷ more) = text_of (piece ∷ new) ≡ text_of (other ∷ more)
-PutAlike _ _ = ⊥
-
-putting_alike : (new more : List Piece) (parts others : List Part) → PutAlike new more → AllAlike parts others → AllAlike (putting new parts) (putting more others)
-putting_alike [] [] parts others same alike = alike
-putting_alike [] (other ∷ more) parts others same alike = absurd same
-putting_alike (piece ∷ new) [] parts others same alike = absurd same
-putting_alike (piece ∷ new) (other ∷ more) parts others same alike = (inr (refl, refl, same), alike)
-
-module _ (place : ℕ) (new more : List Piece) (same : PutAlike new more) where
-  abbrev one : Layout
-  one = inserting (record { place = place; new = new })
-
-  abbrev other : Layout
-  other = inserting (record { place = place; new = more })
-
-  put_alike : (i : ℕ) → PutAlike (one.put i) (other.put i)
-  put_alike i = elim (cases_Bool (eqb place i)) [ inl here ↦ rw here same | inr there ↦ rw there tt ]
-
-  parts_alike : (i : ℕ) (pieces : List Piece) → AllAlike (parts_from i one pieces) (parts_from i other pieces)
-  parts_alike i [] = putting_alike (one.put i) (other.put i) [] [] (put_alike i) tt
-  parts_alike i (piece ∷ pieces) =
-      let rest = parts_alike (i + 1) pieces in
-      let part : Part = record { old = piece ∷ []; new = closed piece ∷ [] } in
-      let all = putting_alike (one.put i) (other.put i) (part ∷ parts_from (i + 1) one pieces) (part ∷ parts_from (i + 1) other pieces) (put_alike i) (inl refl, rest) in
-      let P : List Part → Type 0 = λ parts. AllAlike parts (parts_from i other (piece ∷ pieces)) in
-      let Q : List Part → Type 0 = λ parts. AllAlike (putting (one.put i) (part ∷ parts_from (i + 1) one pieces)) parts in
-      subst P (sym (parts_from-cons i one piece pieces refl)) (subst Q (sym (parts_from-cons i other piece pieces refl)) all)
-
-  same_insertion : (pieces : List Piece) (changed : ℕ)
-      → edited_by (record { script = script_of one pieces; changed = changed; chosen = None }) ≡ edited_by (record { script = script_of other pieces; changed = changed; chosen = None })
-  same_insertion pieces changed =
-      let alike = settled_alike (parts_from 0 one pieces) (parts_from 0 other pieces) (parts_alike 0 pieces) in
-      let made : List Hunk → List ℕ → Patched = λ hunks text. record { patch = hunks; text = text; changed = changed; chosen = None } in
-      ap (λ hunks. made (real_changes (merged hunks)) (edited_text (script_of one pieces))) (same_changes 0 (script_of one pieces) (script_of other pieces) alike)
-      ∙ ap (made (hunks_of (script_of other pieces))) (same_edited (script_of one pieces) (script_of other pieces) alike)
-
--- ---- in one piece
-
--- the text of some lines ends in a newline
-lines_end : (piece : Piece) (new : List Piece) → AreEnded (piece ∷ new) → ends_newline (text_of (piece ∷ new)) ≡ true
-lines_end piece [] ended = ap ends_newline (append-nil piece.bytes) ∙ ended.0
-lines_end piece (next ∷ new) ended = ends_newline-append piece.bytes (text_of (next ∷ new)) (lines_end next new ended.1)
-
-ends_newline-text_of : (text : List ℕ) (piece : Piece) (new : List Piece) → AreEnded (piece ∷ new) → text ≡ text_of (piece ∷ new) → ends_newline text ≡ true
-ends_newline-text_of text piece new ended is = ap ends_newline is ∙ lines_end piece new ended
-
-some_bytes : (bytes more : List ℕ) → ends_newline bytes ≡ true → bytes ++ more ≡ [] → ⊥
-some_bytes [] more ended none = false≢true ended
-some_bytes (b ∷ bytes) more ended none = cc
-
-some_text : (piece : Piece) (new : List Piece) → ends_newline piece.bytes ≡ true → text_of (piece ∷ new) ≡ [] → ⊥
-some_text piece new ended none = some_bytes piece.bytes (text_of new) ended none
-
-block-ended : (text : List ℕ) (new : List Piece) → AreEnded new → text ≡ text_of new → AreEnded (block text)
-block-ended [] new ended is = tt
-block-ended (b ∷ bs) [] ended is = cc
-block-ended (b ∷ bs) (piece ∷ new) ended is = (ends_newline-text_of (b ∷ bs) piece new ended is, tt)
-
-block-alike : (text : List ℕ) (new : List Piece) → AreEnded new → text ≡ text_of new → PutAlike (block text) new
-block-alike [] [] ended is = tt
-block-alike [] (piece ∷ new) ended is = absurd (some_text piece new ended.0 (sym is))
-block-alike (b ∷ bs) [] ended is = cc
-block-alike (b ∷ bs) (piece ∷ new) ended is = append-nil (b ∷ bs) ∙ is
-
--- an insertion of a text in one piece
-abbrev pub in_one : ℕ → List ℕ → Insertion
-in_one place text = record { place = place; new = block text }
-
-pub LaysLines-in_one : (place : ℕ) (text : List ℕ) (new : List Piece) → AreEnded new → text ≡ text_of new → LaysLines (inserting (in_one place text))
-LaysLines-in_one place text new ended is = record {
-  becomes = λ i piece ends. (ends, tt);
-  put = λ i. cond_both (eqb place i) (block text) [] AreEnded (λ _. block-ended text new ended is) (λ _. tt);
-}
-
--- it is the same edit
-pub put_in_one : (pieces : List Piece) (place : ℕ) (text : List ℕ) (insertion : Insertion) (changed : ℕ) → AreEnded insertion.new → IsPut place text insertion
-    → edited_by (record { script = script_of (inserting (in_one place text)) pieces; changed = changed; chosen = None })
-    ≡ edited_by (record { script = script_of (inserting insertion) pieces; changed = changed; chosen = None })
-put_in_one pieces place text insertion changed ended is =
-    let made : ℕ → Patched = λ at. edited_by (record { script = script_of (inserting (in_one at text)) pieces; changed = changed; chosen = None }) in
-    ap made is.same_place ∙ same_insertion insertion.place (block text) insertion.new (block-alike text insertion.new ended is.same_text) pieces changed
-
 -- ---- the edit that puts a new record in, and its refusals
 
 -- ---- all that is put in ends in newlines
 
-numbered_fields-ended : (given : List Numbered) → AreEnded (numbered_fields given)
-numbered_fields-ended [] = tt
-numbered_fields-ended (one ∷ given) = (canonical-ends one.name (signed_decimal one.number), numbered_fields-ended given)
+pub AreLines-numbered : (given : List Numbered) → AreLines (numbered_fields given)
+AreLines-numbered [] = tt
+AreLines-numbered (one ∷ given) = (canonical_ends one.name (signed_decimal one.number), AreLines-numbered given)
 
-fields_of-ended : (pairs : List Pair) → AreEnded (fields_of pairs)
-fields_of-ended [] = tt
-fields_of-ended (pair ∷ pairs) = (canonical-ends pair.name pair.value, fields_of-ended pairs)
+-- an insertion of some lines, at a place of the text
+pub record CanBePut (pieces : List Piece) (insertion : Insertion) : Type 0 where
+  pub within : insertion.place ≤ length pieces
+  pub some : 0 < length insertion.new
+  pub lines : AreLines insertion.new
 
--- the insertion puts in lines
-abbrev PutsLines : Insertion → Type 0
-PutsLines insertion = AreEnded insertion.new
+module _ (pieces : List Piece) (records : List (Range ℕ)) (ranges : AreRanges (length pieces) records) where
+  by_slice : (make : Range ℕ → Insertion) (found : Option (Range ℕ)) (other : Insertion) (k : ℕ) → slice_get records k ≡ found
+      → ((r : Range ℕ) → r.start < r.end → r.end ≤ length pieces → CanBePut pieces (make r)) → CanBePut pieces other → CanBePut pieces (option_map_or make found other)
+  by_slice make None other k at each can = can
+  by_slice make (Some r) other k at each can =
+      let is = AllByRecursion-slice_get (λ range. (range.start < range.end) × (range.end ≤ length pieces)) records k r ranges.each at in
+      each r is.0 is.1
 
-by_option : {X : Type 0} (make : X → Insertion) (found : Option X) (fallback : Insertion)
-    → ((x : X) → PutsLines (make x)) → PutsLines fallback → PutsLines (option_map_or make found fallback)
-by_option make None fallback each ended = ended
-by_option make (Some x) fallback each ended = each x
+  by_range : (make : Range ℕ → Insertion) (i : Option ℕ) (other : Insertion) → ((r : Range ℕ) → r.start < r.end → r.end ≤ length pieces → CanBePut pieces (make r))
+      → CanBePut pieces other → CanBePut pieces (option_map_or make (range_of records i) other)
+  by_range make None other each can = can
+  by_range make (Some k) other each can = by_slice make (slice_get records k) other k refl each can
 
-module _ (pieces : List Piece) (records : List (Range ℕ)) (sets : List Set_) where
-  at_end-ended : (new : List Piece) → AreEnded new → PutsLines (at_end pieces new)
-  at_end-ended new ended = cond_both _ (empty_line ∷ new) new AreEnded (λ _. (refl, ended)) (λ _. ended)
+  at_end-can : (new : List Piece) → 0 < length new → AreLines new → CanBePut pieces (at_end pieces new)
+  at_end-can new some lines = record {
+    within = omega arith;
+    some = cond_both (is_full_at pieces (length pieces - 1)) (empty_line ∷ new) new (λ l. 0 < length l) (λ _. omega arith) (λ _. some);
+    lines = cond_both (is_full_at pieces (length pieces - 1)) (empty_line ∷ new) new AreLines (λ _. (refl, lines)) (λ _. lines);
+  }
 
-  insertion_for-ended : (record_type : Option (List ℕ)) (fields : List Piece) → AreEnded fields → PutsLines (insertion_for pieces records sets record_type fields)
-  insertion_for-ended None fields ended =
-      let beside = by_option (before_paragraph pieces fields) (range_of records (option_and_then (λ s. s.head) (slice_get sets 1))) (at_end pieces fields)
-      (λ _. AreEnded-append fields (empty_line ∷ []) ended (refl, tt)) (at_end-ended fields ended) in
-      subst PutsLines (sym (untyped_insertion-is pieces records sets fields))
-      (by_option (after_paragraph pieces fields) (range_of records (option_and_then last_of (slice_get sets 0))) (beside_descriptor pieces records sets fields) (λ _. (refl, ended)) beside)
-  insertion_for-ended (Some record_type) fields ended =
-      by_option (after_paragraph pieces fields) (range_of records (option_and_then last_of (find (is_of_type record_type) sets))) (at_end pieces (canonical rec_name record_type ∷ empty_line ∷ fields))
-      (λ _. (refl, ended)) (at_end-ended (canonical rec_name record_type ∷ empty_line ∷ fields) (canonical-ends rec_name record_type, (refl, ended)))
+  module _ (fields : List Piece) (some : 0 < length fields) (lines : AreLines fields) where
+    after-can : (r : Range ℕ) → r.start < r.end → r.end ≤ length pieces → CanBePut pieces (after_paragraph pieces fields r)
+    after-can r more within = record {
+      within = omega (arith, within, prefix_len-le-length is_full (drop r.end pieces), length-drop r.end pieces);
+      some = omega arith;
+      lines = (refl, lines);
+    }
+
+    before-can : (r : Range ℕ) → r.start < r.end → r.end ≤ length pieces → CanBePut pieces (before_paragraph pieces fields r)
+    before-can r more within = record {
+      within = omega (arith, more, within);
+      some = omega (arith, length-append fields (empty_line ∷ []));
+      lines = AllByRecursion-append (λ piece. IsTrue (ends_newline piece.bytes)) fields (empty_line ∷ []) lines (refl, tt);
+    }
+
+    pub insertion-can : (sets : List Set_) (record_type : Option (List ℕ)) → CanBePut pieces (insertion_for pieces records sets record_type fields)
+    insertion-can sets None =
+        subst (CanBePut pieces) (sym (untyped_insertion-is pieces records sets fields))
+        (by_range (after_paragraph pieces fields) (option_and_then last_of (slice_get sets 0)) (beside_descriptor pieces records sets fields) after-can
+        (by_range (before_paragraph pieces fields) (option_and_then (λ s. s.head) (slice_get sets 1)) (at_end pieces fields) before-can (at_end-can fields some lines)))
+    insertion-can sets (Some record_type) =
+        by_range (after_paragraph pieces fields) (option_and_then last_of (find (is_of_type record_type) sets)) (at_end pieces (canonical rec_name record_type ∷ empty_line ∷ fields)) after-can
+        (at_end-can (canonical rec_name record_type ∷ empty_line ∷ fields) (omega arith) (canonical_ends rec_name record_type, (refl, lines)))
 
 -- ---- the edit
 
-module _ (pieces : List Piece) (schema : Described) (record_type : Option (List ℕ)) (fresh : NewRecord) (auto : Bool) where
-  pub insert-no_record : (force : Bool) (fault : Fault) → IsMemoryOr fault (IsNewRecord record_type fresh (Err fault))
-      → IsMemoryOr fault (IsCarriedOut pieces schema force (insert record_type fresh auto) (Err fault))
-  insert-no_record force fault is =
-      memory_or_weaker fault (IsNewRecord record_type fresh (Err fault)) (IsCarriedOut pieces schema force (insert record_type fresh auto) (Err fault))
-      (λ refused. inl (fault, inl (fault, refused, refl), refl)) is
+-- at this place this text makes the insertion of a new record, which has fields
+module _ (pieces : List Piece) (schema : Described) (record_type : Option (List ℕ)) (fresh : NewRecord) (auto : Bool) (pairs : List Pair) (is_new : IsNewRecord record_type fresh (Ok pairs))
+    (automatic : List ℕ) (place : ℕ) (text : List ℕ) (given : IsAutomaticText pieces schema record_type auto (map (λ pair. pair.name) pairs) automatic)
+    (put : IsRecordPut pieces schema.sets record_type automatic pairs place text) where
+  abbrev fields : List Piece
+  fields = numbered_fields given.0 ++ fields_of pairs
 
-  module _ (pairs : List Pair) (is_new : IsNewRecord record_type fresh (Ok pairs)) where
-    abbrev pub names : List (List ℕ)
-    names = map (λ pair. pair.name) pairs
+  abbrev insertion : Insertion
+  insertion = insertion_for pieces put.records schema.sets record_type fields
 
-    pub insert-no_number : (force : Bool) (fault : Fault) → IsMemoryOr fault (AreAutomatic pieces schema record_type auto names (Err fault))
-        → IsMemoryOr fault (IsCarriedOut pieces schema force (insert record_type fresh auto) (Err fault))
-    insert-no_number force fault is =
-        memory_or_weaker fault (AreAutomatic pieces schema record_type auto names (Err fault)) (IsCarriedOut pieces schema force (insert record_type fresh auto) (Err fault))
-        (λ refused. inl (fault, inr (pairs, is_new, inl (fault, refused, refl)), refl)) is
+  is_put : IsPut place text insertion
+  is_put = put.is (numbered_fields given.0) given.2
 
-    module _ (automatic : List ℕ) (place : ℕ) (text : List ℕ) (given : IsAutomaticText pieces schema record_type auto names automatic)
-        (put : IsRecordPut pieces schema.sets record_type automatic pairs place text) where
-      abbrev fields : List Piece
-      fields = numbered_fields given.0 ++ fields_of pairs
+  can : CanBePut pieces insertion
+  can =
+      insertion-can pieces put.records (ranges_of_records pieces put.records put.are) fields
+      (omega (arith, length-append (numbered_fields given.0) (fields_of pairs), length-map pairs (λ pair. canonical pair.name pair.value), new_record_has_fields record_type fresh pairs is_new))
+      (AllByRecursion-append (λ piece. IsTrue (ends_newline piece.bytes)) (numbered_fields given.0) (fields_of pairs) (AreLines-numbered given.0) (AreLines-fields pairs)) schema.sets record_type
 
-      is_put : IsPut place text (insertion_for pieces put.records schema.sets record_type fields)
-      is_put = put.is (numbered_fields given.0) given.2
+  pub put_within : place ≤ length pieces
+  put_within = omega (arith, is_put.same_place, can.within)
 
-      ended : PutsLines (insertion_for pieces put.records schema.sets record_type fields)
-      ended = insertion_for-ended pieces put.records schema.sets record_type fields
-          (AreEnded-append (numbered_fields given.0) (fields_of pairs) (numbered_fields-ended given.0) (fields_of-ended pairs))
+  pub put_some : (new : List Piece) × AreSome new text
+  put_some = (insertion.new, record { some = can.some; lines = can.lines; is = is_put.same_text })
 
-      pub LaysLines-insert : LaysLines (inserting (in_one place text))
-      LaysLines-insert = LaysLines-in_one place text (insertion_for pieces put.records schema.sets record_type fields).new ended is_put.same_text
-
-      pub insert-made : (force : Bool) (edited : Patched) → edited ≡ edited_by (record { script = script_of (inserting (in_one place text)) pieces; changed = 1; chosen = None })
-          → IsCarriedOut pieces schema force (insert record_type fresh auto) (Ok edited)
-      insert-made force edited is =
-          inr (
-            insert_script pieces put.records schema.sets record_type fields,
-            inr (pairs, is_new, inr (given.0, given.1, (put.records, put.are, put_in pieces put.records schema.sets record_type fields))),
-            ap Ok (is ∙ put_in_one pieces place text (insertion_for pieces put.records schema.sets record_type fields) 1 ended is_put),
-          )
+  pub insert-made : (force : Bool) (edited : Patched) → ((new : List Piece) → AreSome new text → edited ≡ edited_by (put_in (record { place = place; new = new }) pieces))
+      → IsCarriedOut pieces schema force (insert record_type fresh auto) (Ok edited)
+  unfolding put_some
+  insert-made force edited made =
+      inr (
+        put_in insertion pieces,
+        inr (pairs, is_new, inr (given.0, given.1, (put.records, put.are, refl))),
+        ap Ok (made insertion.new put_some.1 ∙ ap (λ at. edited_by (put_in (record { place = at; new = insertion.new }) pieces)) is_put.same_place),
+      )

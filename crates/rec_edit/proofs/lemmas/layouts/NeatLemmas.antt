@@ -1,35 +1,32 @@
 -- The layouts of records and fields make well-formed elements that end in newlines.
-use Rattle.std.proofs.Common.{◌≡◌, ◌∙◌, ℕ, suc, ◌+◌, ◌<◌, Bool, true, ◌&&◌, ◌==◌, leb, ltb, List, [], ◌∷◌, ◌++◌, map, take, drop, Option, Some, None, refl, sym, ap, subst, inl, inr, arith, filter}
-use Rattle.std.proofs.Common.{zero, false, IsTrue, length}
+use Rattle.std.proofs.Common.{◌≡◌, ◌∙◌, ℕ, suc, ◌+◌, ◌<◌, Bool, true, ◌==◌, List, [], ◌∷◌, ◌++◌, map, take, drop, Option, Some, None, refl, sym, ap, subst, inl, inr, arith, filter, zero}
+use Rattle.std.proofs.Common.{false, IsTrue, length}
 use Rattle.std.specs.List.{AllByRecursion, list_all, list_any, slice_get}
-use Rattle.std.specs.Prelude.{flat_map, if◌then◌else◌}
+use Rattle.std.specs.Prelude.{flat_map}
 use Rattle.std.specs.Str.{bytes_eq}
-use Rattle.std.specs.declared.ops.Range.{Range}
-use Rattle.std.proofs.lemmas.Bool.{cond_both, and_parts, or_cases, eqb-true, ltb-true, false≢true, cases_Bool}
+use Rattle.std.proofs.lemmas.Bool.{cond_both, and_parts, or_cases, eqb-true, false≢true, cases_Bool}
 use Rattle.std.proofs.lemmas.List.{take-append-drop, append_assoc, append-nil, drop-append-le, length-append, length-take}
 use Rattle.std.specs.Option.{option_map_or}
 use Rattle.rec_text.specs.declared.element.Kind.{Kind}
 use Rattle.rec_text.specs.declared.element.Kind.TheVariants.{Blank, Comment, Field}
 use Rattle.rec_text.specs.Canonical.{is_plain_name, is_foldable, folded}
 use Rattle.rec_text.specs.Elements.{Piece, IsElement, name_of, colon_of}
-use Rattle.rec_text.specs.Records.{elements_in}
 use Rattle.rec_sex.specs.declared.lists.field_list.Item.{Item}
 use Rattle.rec_sex.specs.declared.lists.index_list.Span.{Span}
 use Rattle.rec_sex.specs.Lists.{places_from, occurrences, picks}
-use Rattle.rec_check.specs.Descriptors.{holds_index}
 use Rattle.rec_edit.specs.declared.request.Action.{Action}
 use Rattle.rec_edit.specs.declared.request.Action.TheVariants.{Set, Add, SetAdd, Rename, Delete, Comment as CommentFields}
 use Rattle.rec_edit.specs.Script.{closed}
-use Rattle.rec_edit.specs.Rules.{canonical, comments_of, renamed, is_picked, picked_becomes, picks_none, added, commenting, deletion, is_own, physical_lines, setting, with_blanks}
+use Rattle.rec_edit.specs.Rules.{canonical, comments_of, renamed, picked_becomes, picks_none, added, physical_lines}
 use Rattle.rec_edit.specs.Wording.{names_of_action, values_of_action}
 use Rattle.rec_text.specs.Bytes.{continues_name, ends_newline, is_letter}
 use Rattle.rec_text.specs.Values.{on_first}
-use Rattle.rec_text.proofs.lemmas.ListLemmas.{AllByRecursion-weaker, AllByRecursion-prefix, AllByRecursion-following, slice_get-drop, slice_get-take, same_bytes, AllByRecursion-append}
-use Rattle.rec_edit.proofs.lemmas.scripts.WellFormedLemmas.{IsClosed, IsClosed-closed, bare-closed, commented_are_closed, commented_are_bare, canonical_is_closed, canonical_is_bare, renamed_is_closed}
-use Rattle.rec_edit.proofs.lemmas.scripts.WellFormedLemmas.{renamed_is_bare, name_of-closed, kind-closed, AllByRecursion-map, CanStandFor}
+use Rattle.rec_text.proofs.lemmas.ListLemmas.{AllByRecursion-weaker, AllByRecursion-prefix, AllByRecursion-following, same_bytes, AllByRecursion-append}
+use Rattle.rec_edit.proofs.lemmas.scripts.WellFormedLemmas.{IsClosed, IsClosed-closed, bare-closed, commented_are_closed, commented_are_bare, canonical_is_closed, canonical_is_bare}
+use Rattle.rec_edit.proofs.lemmas.scripts.WellFormedLemmas.{renamed_is_closed, renamed_is_bare, name_of-closed, kind-closed, AllByRecursion-map, CanStandFor}
 use Rattle.rec_text.proofs.lemmas.elements.NameLemmas.{IsBelow, colon_of_is_below}
 use Rattle.rec_text.proofs.lemmas.values.ValueLemmas.{passes_apart}
-use Rattle.rec_edit.proofs.lemmas.scripts.LaidLemmas.{Ends, Neat, LaysNeatly, closed-neat, ends_newline-push}
+use Rattle.rec_edit.proofs.lemmas.scripts.LaidLemmas.{Ends, Neat, closed-neat, ends_newline-push}
 
 -- ---- the fields that an edit picks have plain names, and what stands in their place is well formed
 
@@ -39,10 +36,6 @@ pub AllByRecursion-flat_map : {X Y : Type 0} (P : X → Type 0) (Q : Y → Type 
     → AllByRecursion Q (flat_map f xs)
 AllByRecursion-flat_map P Q f each [] all = tt
 AllByRecursion-flat_map P Q f each (x ∷ xs) all = AllByRecursion-append Q (f x) (flat_map f xs) (each x all.0) (AllByRecursion-flat_map P Q f each xs all.1)
-
-pub AllByRecursion-all : {X Y : Type 0} (Q : Y → Type 0) (f : X → List Y) → ((x : X) → AllByRecursion Q (f x)) → (xs : List X) → AllByRecursion Q (flat_map f xs)
-AllByRecursion-all Q f each [] = tt
-AllByRecursion-all Q f each (x ∷ xs) = AllByRecursion-append Q (f x) (flat_map f xs) (each x) (AllByRecursion-all Q f each xs)
 
 pub AllByRecursion-filter : {X : Type 0} (P : X → Type 0) (test : X → Bool) (xs : List X) → AllByRecursion P xs → AllByRecursion P (filter test xs)
 AllByRecursion-filter P test [] all = tt
@@ -62,13 +55,6 @@ found P test [] all any = absurd (false≢true any)
 found P test (x ∷ xs) all any = elim (or_cases (test x) (list_any test xs) any) [
   | inl here ↦ (x, all.0, here)
   | inr later ↦ found P test xs all.1 later
-]
-
-passing : {X : Type 0} (test : X → Bool) (xs : List X) → list_any test xs ≡ true → (x : X) × (test x ≡ true)
-passing test [] any = absurd (false≢true any)
-passing test (x ∷ xs) any = elim (or_cases (test x) (list_any test xs) any) [
-  | inl here ↦ (x, here)
-  | inr later ↦ passing test xs later
 ]
 
 -- ---- what a list picks has one of its names
@@ -99,7 +85,7 @@ AllByRecursion-occurrences P (Some span) places all = AllByRecursion-drop P span
 abbrev pub HasPlainName : Item → Type 0
 HasPlainName item = is_plain_name item.name ≡ true
 
-abbrev IsPlainAt : List Piece → ℕ → Type 0
+abbrev pub IsPlainAt : List Piece → ℕ → Type 0
 IsPlainAt own place = (piece : Piece) → slice_get own place ≡ Some piece → is_plain_name (name_of piece) ≡ true
 
 IsPlainAt-named : (own : List Piece) (item : Item) → HasPlainName item → (place : ℕ) → HasNameFrom 0 item.name own place → IsPlainAt own place
@@ -107,28 +93,12 @@ IsPlainAt-named own item plain place (k, at, named) piece is =
     let same : place ≡ k = omega (arith, at) in
     ap is_plain_name (named piece (ap (slice_get own) (sym same) ∙ is)) ∙ plain
 
-picks_are_plain : (items : List Item) (own : List Piece) → AllByRecursion HasPlainName items → AllByRecursion (IsPlainAt own) (picks items own)
+pub picks_are_plain : (items : List Item) (own : List Piece) → AllByRecursion HasPlainName items → AllByRecursion (IsPlainAt own) (picks items own)
 picks_are_plain items own plain =
     AllByRecursion-flat_map HasPlainName (IsPlainAt own) (λ item. occurrences item.occurrences (places_from 0 item.name own))
     (λ item named. AllByRecursion-occurrences (IsPlainAt own) item.occurrences (places_from 0 item.name own)
     (AllByRecursion-weaker (HasNameFrom 0 item.name own) (IsPlainAt own) (IsPlainAt-named own item named) (places_from 0 item.name own) (places_are_named 0 item.name own)))
     items plain
-
--- an element within a range, counted from the start of that
-slice_get-elements_in : (pieces : List Piece) (range : Range ℕ) (place i : ℕ) → range.start + place ≡ i → i < range.end → slice_get (elements_in pieces range) place ≡ slice_get pieces i
-slice_get-elements_in pieces range place i at within =
-    slice_get-drop range.start place (take range.end pieces) ∙ ap (slice_get (take range.end pieces)) at ∙ slice_get-take range.end i pieces within
-
-pub picked_is_plain : (items : List Item) (pieces : List Piece) (chosen : List (Range ℕ)) (i : ℕ) (piece : Piece) → AllByRecursion HasPlainName items
-    → slice_get pieces i ≡ Some piece → is_picked items pieces chosen i ≡ true → is_plain_name (name_of piece) ≡ true
-picked_is_plain items pieces chosen i piece plain is picked =
-    let in_record = passing (λ own_range. holds_index i own_range && list_any (λ place. own_range.start + place == i) (picks items (elements_in pieces own_range))) chosen picked in
-    let range = in_record.0 in
-    let own = elements_in pieces range in
-    let parts = and_parts (holds_index i range) (list_any (λ place. range.start + place == i) (picks items own)) in_record.1 in
-    let within : i < range.end = ltb-true i range.end (and_parts (leb range.start i) (ltb i range.end) parts.0).1 in
-    let one = found (IsPlainAt own) (λ place. range.start + place == i) (picks items own) (picks_are_plain items own plain) parts.1 in
-    one.1 piece (slice_get-elements_in pieces range one.0 i (eqb-true (range.start + one.0) i one.2) within ∙ is)
 
 -- ---- what stands instead of an element
 
@@ -263,7 +233,7 @@ comments_neat (line ∷ lines) all = (comment_neat line all.0, comments_neat lin
 pub commented_neat : (piece : Piece) → Ends piece → AllByRecursion Neat (comments_of piece.bytes)
 commented_neat piece ends = comments_neat (physical_lines piece.bytes) (all_neat (physical_lines piece.bytes) (lines_neat piece.bytes ends))
 
-all_end : (pieces : List Piece) → AllByRecursion Neat pieces → AllByRecursion Ends pieces
+pub all_end : (pieces : List Piece) → AllByRecursion Neat pieces → AllByRecursion Ends pieces
 all_end [] all = tt
 all_end (piece ∷ pieces) all = (closed-neat piece all.0, all_end pieces all.1)
 
@@ -279,6 +249,9 @@ folded_open c (b ∷ value) other = elim (cases_Bool (b == 10)) [
 pub canonical_neat : (name value : List ℕ) → Neat (canonical name value)
 canonical_neat name value =
     (name ++ (58 ∷ 32 ∷ folded value), sym (append_assoc name (58 ∷ 32 ∷ folded value) (10 ∷ [])), ends_newline-following name 58 (32 ∷ folded value) ∙ folded_open 32 value refl)
+
+pub canonical_ends : (name value : List ℕ) → Ends (canonical name value)
+canonical_ends name value = closed-neat (canonical name value) (canonical_neat name value)
 
 name_open : (bs : List ℕ) → IsTrue (list_all continues_name bs) → ends_newline bs ≡ false
 name_open [] all = refl
@@ -332,7 +305,7 @@ IsPlainAction (Rename name) = is_plain_name name ≡ true
 IsPlainAction Delete = Unit {0}
 IsPlainAction CommentFields = Unit {0}
 
-picked_ends : (action : Action) (piece : Piece) → Ends piece → AllByRecursion Ends (picked_becomes action piece)
+pub picked_ends : (action : Action) (piece : Piece) → Ends piece → AllByRecursion Ends (picked_becomes action piece)
 picked_ends (Set value) piece ends = (closed-neat (canonical (name_of piece) value) (canonical_neat (name_of piece) value), tt)
 picked_ends (Add value) piece ends = (ends, tt)
 picked_ends (SetAdd value) piece ends = (closed-neat (canonical (name_of piece) value) (canonical_neat (name_of piece) value), tt)
@@ -340,7 +313,7 @@ picked_ends (Rename name) piece ends = (renamed_ends name piece ends, tt)
 picked_ends Delete piece ends = tt
 picked_ends CommentFields piece ends = all_end (comments_of piece.bytes) (commented_neat piece ends)
 
-picked_neat : (action : Action) (piece : Piece) → IsPlainAction action → Neat piece → AllByRecursion Neat (picked_becomes action piece)
+pub picked_neat : (action : Action) (piece : Piece) → IsPlainAction action → Neat piece → AllByRecursion Neat (picked_becomes action piece)
 picked_neat (Set value) piece plain neat = (canonical_neat (name_of piece) value, tt)
 picked_neat (Add value) piece plain neat = (neat, tt)
 picked_neat (SetAdd value) piece plain neat = (canonical_neat (name_of piece) value, tt)
@@ -352,50 +325,10 @@ canonicals_neat : (value : List ℕ) (items : List Item) → AllByRecursion Neat
 canonicals_neat value [] = tt
 canonicals_neat value (item ∷ items) = (canonical_neat item.name value, canonicals_neat value items)
 
-added_neat : (action : Action) (items : List Item) (own : List Piece) → AllByRecursion Neat (added action items own)
+pub added_neat : (action : Action) (items : List Item) (own : List Piece) → AllByRecursion Neat (added action items own)
 added_neat (Set value) items own = tt
 added_neat (Add value) items own = canonicals_neat value items
 added_neat (SetAdd value) items own = canonicals_neat value (filter (picks_none own) items)
 added_neat (Rename name) items own = tt
 added_neat Delete items own = tt
 added_neat CommentFields items own = tt
-
-if_all : (P : Piece → Type 0) (b : Bool) (some : List Piece) (piece : Piece) → AllByRecursion P some → P piece → AllByRecursion P (if b then some else piece ∷ [])
-if_all P true some piece all is = all
-if_all P false some piece all is = (is, tt)
-
-if_added : (b : Bool) (some : List Piece) → AllByRecursion Neat some → AllByRecursion Neat (if b then some else [])
-if_added true some all = all
-if_added false some all = tt
-
-put_neat : (action : Action) (items : List Item) (pieces : List Piece) (i : ℕ) (chosen : List (Range ℕ))
-    → AllByRecursion Neat (flat_map (λ own_range. if own_range.end == i then added action items (elements_in pieces own_range) else []) chosen)
-put_neat action items pieces i [] = tt
-put_neat action items pieces i (r ∷ chosen) =
-    AllByRecursion-append Neat (if r.end == i then added action items (elements_in pieces r)
-    else []) (flat_map (λ own_range. if own_range.end == i then added action items (elements_in pieces own_range) else []) chosen)
-    (if_added (r.end == i) (added action items (elements_in pieces r)) (added_neat action items (elements_in pieces r))) (put_neat action items pieces i chosen)
-
-pub LaysNeatly-deletion : (pieces : List Piece) (chosen : List (Range ℕ)) → LaysNeatly (deletion pieces chosen)
-LaysNeatly-deletion pieces chosen = record {
-  unties = λ i. refl;
-  ends = λ i piece ends. if_all Ends (is_own (map (with_blanks pieces) chosen) i) [] piece tt ends;
-  neat = λ i piece neat. if_all Neat (is_own (map (with_blanks pieces) chosen) i) [] piece tt neat;
-  put = λ i. tt;
-}
-
-pub LaysNeatly-commenting : (chosen : List (Range ℕ)) → LaysNeatly (commenting chosen)
-LaysNeatly-commenting chosen = record {
-  unties = λ i. refl;
-  ends = λ i piece ends. if_all Ends (is_own chosen i) (comments_of piece.bytes) piece (all_end (comments_of piece.bytes) (commented_neat piece ends)) ends;
-  neat = λ i piece neat. if_all Neat (is_own chosen i) (comments_of piece.bytes) piece (commented_neat piece (closed-neat piece neat)) neat;
-  put = λ i. tt;
-}
-
-pub LaysNeatly-setting : (action : Action) (items : List Item) (pieces : List Piece) (chosen : List (Range ℕ)) → IsPlainAction action → LaysNeatly (setting action items pieces chosen)
-LaysNeatly-setting action items pieces chosen plain = record {
-  unties = λ i. refl;
-  ends = λ i piece ends. if_all Ends (is_picked items pieces chosen i) (picked_becomes action piece) piece (picked_ends action piece ends) ends;
-  neat = λ i piece neat. if_all Neat (is_picked items pieces chosen i) (picked_becomes action piece) piece (picked_neat action piece plain neat) neat;
-  put = λ i. all_end (flat_map (λ own_range. if own_range.end == i then added action items (elements_in pieces own_range) else []) chosen) (put_neat action items pieces i chosen);
-}

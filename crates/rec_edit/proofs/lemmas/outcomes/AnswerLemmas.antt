@@ -1,10 +1,10 @@
 -- What holds of each step of an edit, and the refusals that an edit has at all.
-use Rattle.std.proofs.Common.{◌≡◌, inl, inr, Result, Ok, Err, sym, ap, subst, ◌≢◌, List, [], ◌==◌, ℕ, position, Option, Some, None, ◌∷◌, length, ℤ, Bool, true, false, cond, ◌++◌, map, filter_map}
-use Rattle.std.proofs.Common.{slice_get, find, option_to_list}
+use Rattle.std.proofs.Common.{◌≡◌, inl, inr, Result, Ok, Err, sym, ap, subst, ◌≢◌, List, [], ◌==◌, ℕ, position, Option, Some, None, ◌∷◌, length, ℤ, Bool, true, false, cond, ◌++◌, map, find}
+use Rattle.std.proofs.Common.{option_to_list}
 use Rattle.std.specs.Option.{option_map_or}
 use Rattle.std.specs.declared.ops.Range.{Range}
 use Rattle.std.proofs.lemmas.Bool.{cond_both}
-use Rattle.std.specs.List.{list_all}
+use Rattle.std.specs.List.{AllByRecursion, list_all}
 use Rattle.rec_text.specs.declared.fault.Fault.{Fault}
 use Rattle.rec_text.specs.declared.fault.Fault.TheVariants.{BadPattern, OutOfMemory, BadFieldList, BadDescriptor, Unsupported, NoSuchType, BadName, BadValue, BadRecord, AutoImpossible}
 use Rattle.rec_text.specs.Faults.{IsMemoryOr, UnlessMemory}
@@ -12,10 +12,11 @@ use Rattle.rec_text.specs.Steps.{Then}
 use Rattle.rec_text.specs.Elements.{Piece, AreElementsOf, text_of}
 use Rattle.rec_check.specs.Schemas.{Described, IsSchema}
 use Rattle.rec_edit.specs.Task.{Task, Pair, Wanted, NewRecord, of_pairs, of_text, insert, replace, delete, comment_out, set, auto_fill}
-use Rattle.rec_edit.specs.Script.{Layout, new_pieces, edited_text}
-use Rattle.rec_edit.specs.proving.Parts.{script_of}
+use Rattle.rec_edit.specs.Script.{Part, old_pieces, new_pieces, edited_text}
+use Rattle.rec_edit.specs.Blocks.{Block, is_selected}
+use Rattle.rec_edit.specs.Outcome.{put_in, IsMade, made_of, allowed, AreChosen, AreRemovable, IsPutIn, EditScript, IsEditScript, none_of, IsSoundUnlessForced, IsEditOf, IsEditRefusal}
+use Rattle.rec_edit.proofs.lemmas.scripts.ChangeLemmas.{IsSome}
 use Rattle.rec_edit.specs.proving.Changes.{hunks_of}
-use Rattle.rec_edit.specs.Outcome.{allowed, AreChosen, AreRemovable, IsLaidOutFor, IsPutIn, EditScript, IsEditScript, none_of, IsSoundUnlessForced, IsEditOf, IsEditRefusal}
 use Rattle.rec_edit.specs.Effect.{HasEffect}
 use Rattle.rec_sex.specs.declared.lists.field_list.Item.{Item}
 use Rattle.rec_edit.specs.declared.request.Action.TheVariants.{Add}
@@ -33,9 +34,9 @@ use Rattle.rec_check.specs.Sets.{is_of_type}
 use Rattle.rec_check.specs.Violations.{AreViolationsOf, members, names_of}
 use Rattle.rec_select.specs.Selection.{Filter, all, by_expression, at_places, with_text, with_value, has_members, only_set, set_for, IsSelection}
 use Rattle.rec_edit.specs.declared.request.Action.{Action}
-use Rattle.rec_edit.specs.Insertions.{Numbered, numbered_fields, filling}
-use Rattle.rec_edit.specs.Rules.{fields_of, deletion, commenting, replacement, setting}
-use Rattle.rec_edit.specs.Automatic.{lacking, AreNumbered, AreAutomatic, numbers_in, AreFilled, AreFilledSets}
+use Rattle.rec_edit.specs.Insertions.{insertion_for, Numbered, numbered_fields}
+use Rattle.rec_edit.specs.Rules.{fields_of, deleted, commented, replaced, edited}
+use Rattle.rec_edit.specs.Automatic.{lacking, AreNumbered, AreAutomatic, numbers_in, AreFilled, AreFilledSet, AreFilledSets}
 use Rattle.rec_text.proofs.lemmas.records.RecordLemmas.{OneListOfRecords-holds}
 use Rattle.rec_text.proofs.lemmas.reading.ReadingLemmas.{one_reading}
 use Rattle.rec_check.proofs.lemmas.laws.SameLemmas.{one_schema}
@@ -50,11 +51,11 @@ unless_memory-weaker (Err fault) P Q weaker holds = memory_or_weaker fault (P (E
 
 -- ---- what holds of each step of an edit
 
--- Its script is that of a layout; the new elements are those of the edited text, whose descriptors are sound; where that text
--- is the old one there is no hunk; and it has its effect on the records.
+-- The old elements of its script are those of the text, and no part is empty; the new ones are those of the edited text,
+-- whose descriptors are sound; where that text is the old one there is no hunk; and it has its effect on the records.
 pub record IsFaithful (pieces : List Piece) (schema : Described) (task : Task) (edit : EditScript) : Type 0 where
-  pub layout : Layout
-  pub is : edit.script ≡ script_of layout pieces
+  pub old : old_pieces edit.script ≡ pieces
+  pub some : AllByRecursion IsSome edit.script
   pub read : AreElementsOf (new_pieces edit.script) (edited_text edit.script)
   pub unchanged : edited_text edit.script ≡ text_of pieces → hunks_of edit.script ≡ []
   pub sound : (same : Described) × IsSchema (new_pieces edit.script) (Ok same)
@@ -161,9 +162,7 @@ RefusesSo-of_records : {A : Type 0} (pieces : List Piece) (made : List (Range �
 RefusesSo-of_records pieces made answer (records, are, e) = subst MayBe (sym e) tt
 
 RefusesSo-chosen : (pieces : List Piece) (sets : List Set_) (wanted : Wanted) → RefusesSo (AreChosen pieces sets wanted)
-RefusesSo-chosen pieces sets wanted =
-    RefusesSo-Then (IsSelection pieces sets wanted.record_type wanted.filter) _ (RefusesSo-selection pieces sets wanted)
-    (λ selected. RefusesSo-of_records pieces (λ records. filter_map (slice_get records) selected))
+RefusesSo-chosen pieces sets wanted = RefusesSo-selection pieces sets wanted
 
 MayBe-allowed : (wanted : Filter) (force : Bool) → MayBe (allowed wanted force)
 MayBe-allowed all true = tt
@@ -234,19 +233,20 @@ module _ (pieces : List Piece) where
   RefusesSo-filled_sets : (records : List (Range ℕ)) (sets : List Set_) (rules : List Rules) → RefusesSo (AreFilledSets pieces records sets rules)
   RefusesSo-filled_sets records [] [] = RefusesSo-same _ tt
   RefusesSo-filled_sets records (s ∷ sets) (own ∷ rules) =
-      RefusesSo-Then (AreFilled pieces own (readings pieces (members records s)) (members records s)) _ (RefusesSo-filled own (readings pieces (members records s)) (members records s)) (λ filled.
+      RefusesSo-Then (AreFilledSet pieces records s own) _
+      (RefusesSo-Then (AreFilled pieces own (readings pieces (members records s)) (members records s)) _
+      (RefusesSo-filled own (readings pieces (members records s)) (members records s)) (λ given. RefusesSo-same _ tt)) (λ filled.
       RefusesSo-Then (AreFilledSets pieces records sets rules) _ (RefusesSo-filled_sets records sets rules) (λ more. RefusesSo-same _ tt))
   RefusesSo-filled_sets records [] (own ∷ rules) = λ answer is. absurd is
   RefusesSo-filled_sets records (s ∷ sets) [] = λ answer is. absurd is
 
 -- ---- one edit
 
-RefusesSo-laid : {selected : Option ℕ} (pieces : List Piece) (chosen : List (Range ℕ)) (layout : Layout) → RefusesSo (IsLaidOutFor selected pieces chosen layout)
-RefusesSo-laid pieces chosen layout answer (script, is, e) = subst MayBe (sym e) tt
+RefusesSo-made : (pieces : List Piece) (made : Block → List Part) (selected : List ℕ) → RefusesSo (IsMade pieces made selected)
+RefusesSo-made pieces made selected = RefusesSo-of_records pieces (made_of (Some (length selected)) (is_selected selected) (λ k. made) pieces)
 
-RefusesSo-put : (pieces : List Piece) (sets : List Set_) (record_type : Option (List ℕ)) (fields : List Piece)
-    → RefusesSo (λ answer. (records : List (Range ℕ)) × AreRecords pieces records × IsPutIn pieces records sets record_type fields answer)
-RefusesSo-put pieces sets record_type fields answer (records, are, (script, is, e)) = subst MayBe (sym e) tt
+RefusesSo-put : (pieces : List Piece) (sets : List Set_) (record_type : Option (List ℕ)) (fields : List Piece) → RefusesSo (IsPutIn pieces sets record_type fields)
+RefusesSo-put pieces sets record_type fields = RefusesSo-of_records pieces (λ records. put_in (insertion_for pieces records sets record_type fields) pieces)
 
 RefusesSo-step : (pieces : List Piece) (schema : Described) (force : Bool) (task : Task) → RefusesSo (IsEditScript pieces schema force task)
 RefusesSo-step pieces schema force (insert record_type fresh auto) =
@@ -255,17 +255,17 @@ RefusesSo-step pieces schema force (insert record_type fresh auto) =
     RefusesSo-put pieces schema.sets record_type (numbered_fields automatic ++ fields_of pairs)))
 RefusesSo-step pieces schema force (replace wanted fresh) =
     RefusesSo-Then (IsNewRecord None fresh) _ (RefusesSo-new None fresh) (λ pairs.
-    RefusesSo-Then (AreChosen pieces schema.sets wanted) _ (RefusesSo-chosen pieces schema.sets wanted) (λ chosen. RefusesSo-laid pieces chosen (replacement (fields_of pairs) chosen)))
+    RefusesSo-Then (AreChosen pieces schema.sets wanted) _ (RefusesSo-chosen pieces schema.sets wanted) (λ selected. RefusesSo-made pieces (replaced (fields_of pairs)) selected))
 RefusesSo-step pieces schema force (delete wanted) =
-    RefusesSo-Then (AreRemovable pieces schema.sets wanted force) _ (RefusesSo-removable pieces schema.sets wanted force) (λ chosen. RefusesSo-laid pieces chosen (deletion pieces chosen))
+    RefusesSo-Then (AreRemovable pieces schema.sets wanted force) _ (RefusesSo-removable pieces schema.sets wanted force) (RefusesSo-made pieces deleted)
 RefusesSo-step pieces schema force (comment_out wanted) =
-    RefusesSo-Then (AreRemovable pieces schema.sets wanted force) _ (RefusesSo-removable pieces schema.sets wanted force) (λ chosen. RefusesSo-laid pieces chosen (commenting chosen))
+    RefusesSo-Then (AreRemovable pieces schema.sets wanted force) _ (RefusesSo-removable pieces schema.sets wanted force) (RefusesSo-made pieces commented)
 RefusesSo-step pieces schema force (set wanted list action) =
     RefusesSo-Then (AreItemsFor action list) _ (RefusesSo-items action list) (λ items.
-    RefusesSo-Then (AreChosen pieces schema.sets wanted) _ (RefusesSo-chosen pieces schema.sets wanted) (λ chosen. RefusesSo-laid pieces chosen (setting action items pieces chosen)))
+    RefusesSo-Then (AreChosen pieces schema.sets wanted) _ (RefusesSo-chosen pieces schema.sets wanted) (RefusesSo-made pieces (edited action items)))
 RefusesSo-step pieces schema force auto_fill = λ answer (records, are, is).
     RefusesSo-Then (AreFilledSets pieces records schema.sets schema.rules) _ (RefusesSo-filled_sets pieces records schema.sets schema.rules)
-    (λ filled. RefusesSo-laid pieces (map (λ one. one.range) filled) (filling filled)) answer is
+    (λ given. RefusesSo-same _ tt) answer is
 
 -- ---- the edited text
 

@@ -1,28 +1,26 @@
 -- What an edit makes of a text are the elements of the edited text; and its outcome.
-use Rattle.std.proofs.Common.{◌≡◌, ◌∙◌, ℕ, ◌+◌, ◌≤◌, Bool, true, false, cond, if◌then◌else◌, ◌==◌, List, [], ◌∷◌, ◌++◌, ◌⊎◌, inl, inr, length, map, Some, Result, Ok, Err, refl, sym, ap, ap₂, subst}
-use Rattle.std.proofs.Common.{arith, slice_get, ℤ, filter_map, position, Option, None}
-use Rattle.std.specs.List.{AllByRecursion, list_all, flat_map, AllZip}
+use Rattle.std.proofs.Common.{◌≡◌, ◌∙◌, ℕ, Bool, true, false, cond, ◌==◌, List, [], ◌∷◌, ◌++◌, length, map, Some, Result, Ok, Err, refl, sym, ap, ap₂, subst, arith, ℤ, position, Option}
+use Rattle.std.proofs.Common.{None}
+use Rattle.std.specs.List.{AllByRecursion, list_all, AllZip}
+use Rattle.std.specs.Prelude.{option_to_list}
 use Rattle.std.specs.declared.ops.Range.{Range}
-use Rattle.std.proofs.lemmas.Bool.{cond_both, and_parts, ne_eqb}
+use Rattle.std.proofs.lemmas.Bool.{and_parts, ne_eqb}
 use Rattle.rec_text.specs.declared.fault.Fault.{Fault}
 use Rattle.rec_text.specs.declared.fault.Fault.TheVariants.{BadName, BadValue, BadRecord, Integrity}
 use Rattle.rec_text.specs.Canonical.{is_plain_name, is_foldable}
-use Rattle.rec_text.specs.Elements.{Piece, IsElement, AreElementsOf, text_of}
+use Rattle.rec_text.specs.Elements.{Piece, AreElementsOf}
 use Rattle.rec_text.specs.Records.{elements_in, AreRecords}
 use Rattle.rec_text.specs.Steps.{Then}
 use Rattle.rec_sex.specs.declared.lists.field_list.Item.{Item}
 use Rattle.rec_sex.specs.Lists.{IsFieldList}
 use Rattle.rec_check.specs.Schemas.{Described, AreSameSchemas}
 use Rattle.rec_edit.specs.declared.request.Action.{Action}
-use Rattle.rec_edit.specs.declared.request.Action.TheVariants.{Set, Add, SetAdd, Rename, Delete, Comment as CommentFields}
 use Rattle.rec_edit.specs.Task.{Task, insert, replace, delete, comment_out, set, auto_fill, Wanted, NewRecord, of_pairs, of_text}
-use Rattle.rec_edit.specs.Script.{Part, Layout, closed, new_pieces, edited_text}
-use Rattle.rec_edit.specs.proving.Parts.{script_of}
-use Rattle.rec_edit.specs.proving.Changes.{hunks_of}
-use Rattle.rec_edit.specs.Rules.{comments_of, is_own, is_picked, taking_out, deletion, commenting, replacement, setting, picked_becomes, added, with_blanks, fields_of}
+use Rattle.rec_edit.specs.Script.{Part}
+use Rattle.rec_edit.specs.Blocks.{Block, is_selected}
+use Rattle.rec_edit.specs.Outcome.{put_in, IsMade, made_of, EditScript, AreChosen, AreRemovable, IsPutIn, IsEditScript, none_of, IsSoundUnlessForced, IsEditedBy, IsEditOf}
+use Rattle.rec_edit.specs.Rules.{deleted, commented, replaced, edited, fields_of}
 use Rattle.rec_edit.specs.Wording.{if_writable, unnumbered, names_of_action, values_of_action, AreItemsFor, pairs_of, IsRecordText, ArePairs, IsNewRecord}
-use Rattle.rec_edit.specs.Outcome.{EditScript, AreChosen, AreRemovable, IsLaidOut, IsLaidOutFor, IsPutIn, IsEditScript, none_of, IsSoundUnlessForced, IsEditedBy, IsEditOf}
-use Rattle.rec_edit.specs.proving.Edits.{insert_script}
 use Rattle.rec_text.specs.declared.violations.Violation.{Violation}
 use Rattle.rec_check.specs.declared.set.Set_.{Set_}
 use Rattle.rec_check.specs.Automatic.{automatic_names, automatic_of, readings, IsNext, IsAutomatic}
@@ -31,110 +29,18 @@ use Rattle.rec_check.specs.Sets.{is_of_type}
 use Rattle.rec_check.specs.Violations.{AreViolationsOf, members, names_of}
 use Rattle.rec_check.specs.Words.{distinct}
 use Rattle.rec_edit.specs.declared.outcome.Patched.{Patched}
-use Rattle.rec_edit.specs.Insertions.{Filled, Numbered, numbered_fields, filling}
-use Rattle.rec_edit.specs.Automatic.{lacking, AreNumbered, AreAutomatic, numbers_in, AreFilled, AreFilledSets}
-use Rattle.rec_text.proofs.lemmas.ListLemmas.{AllByRecursion-slice_get}
+use Rattle.rec_edit.specs.Insertions.{insertion_for, fields_at, filled, Numbered, numbered_fields}
+use Rattle.rec_edit.specs.Automatic.{lacking, AreNumbered, AreAutomatic, numbers_in, AreFilled, AreFilledSet, AreFilledSets}
 use Rattle.rec_text.proofs.lemmas.reading.ReadingLemmas.{one_reading}
 use Rattle.rec_journal.specs.declared.patch.Hunk.{Hunk}
 use Rattle.rec_edit.proofs.lemmas.scripts.RunLemmas.{one_list_of_changes}
-use Rattle.rec_edit.proofs.lemmas.scripts.TiedLemmas.{laid_out-is, put_in-is, script_is}
-use Rattle.rec_edit.proofs.lemmas.scripts.WellFormedLemmas.{IsClosed, IsClosed-closed, length-commented, CanStandFor, LaysWell, new_pieces_are_read}
-use Rattle.rec_edit.proofs.lemmas.scripts.EqualLemmas.{PutsSome, PutsFew, unchanged_by_some, unchanged_by_few}
-use Rattle.rec_edit.proofs.lemmas.layouts.NeatLemmas.{AllByRecursion-all, HasPlainName, picked_is_plain, CanStandFor-none, CanStandFor-kept, CanStandFor-commented, picked_can_stand, added_are_closed}
+use Rattle.rec_edit.proofs.lemmas.layouts.NeatLemmas.{HasPlainName}
 use Rattle.rec_text.proofs.lemmas.records.RecordLemmas.{OneListOfRecords-holds}
 use Rattle.rec_sex.proofs.lemmas.lists.FieldListReading.{one_field_list}
 use Rattle.rec_check.proofs.lemmas.laws.CheckLemmas.{one_check}
 use Rattle.rec_check.proofs.lemmas.automatic.NextLemmas.{is_counter-same, one_next, automatic_of-same, one_automatic}
 use Rattle.rec_select.proofs.lemmas.selection.SelectionLemmas.{one_selection}
 use Rattle.rec_text.proofs.lemmas.StepLemmas.{AreOne, HasOne, HasOneBut, HasOneBut-of, HasOne-same, AreOne-Then, HasOne-Then, HasOneBut-Then, Then-ok}
-
--- ---- what an edit makes of a text are the elements of the edited text, and where that is the old text the edit has no hunk
-
--- The script is that of a layout that lays well-formed elements, and puts at least one instead of each, or at most one
--- and nothing between.
-pub record IsLaid (pieces : List Piece) (script : List Part) : Type 0 where
-  pub layout : Layout
-  pub is : script ≡ script_of layout pieces
-  pub lays : LaysWell 0 layout pieces
-  pub sizes : PutsSome layout pieces ⊎ PutsFew layout
-
--- where nothing is made of each, there is nothing
-flat_map-none : {X Y : Type 0} (f : X → List Y) → ((x : X) → f x ≡ []) → (xs : List X) → flat_map f xs ≡ []
-flat_map-none f none [] = refl
-flat_map-none f none (x ∷ xs) = rw (none x) (flat_map-none f none xs)
-
--- ---- what the layouts lay
-
-module _ (pieces : List Piece) (whole : AllByRecursion IsElement pieces) where
-  pub element_at : (k : ℕ) (piece : Piece) → slice_get pieces k ≡ Some piece → IsElement piece
-  element_at k piece at = AllByRecursion-slice_get IsElement pieces k piece whole at
-
-  taking_out_lays : (ranges : List (Range ℕ)) → LaysWell 0 (taking_out ranges) pieces
-  taking_out_lays ranges = record {
-    untied = λ _. refl;
-    put = λ _. tt;
-    becomes = λ k piece at. cond_both (is_own ranges (0 + k)) [] (closed piece ∷ []) (CanStandFor piece) (λ _. CanStandFor-none piece) (λ _. CanStandFor-kept piece (element_at k piece at));
-  }
-
-  taking_out_puts_few : (ranges : List (Range ℕ)) → PutsFew (taking_out ranges)
-  taking_out_puts_few ranges = record {
-    put = λ _. refl;
-    becomes = λ k piece. cond_both (is_own ranges k) [] (piece ∷ []) (λ new. length new ≤ 1) (λ _. omega arith) (λ _. omega arith);
-  }
-
-  commenting_lays : (chosen : List (Range ℕ)) → LaysWell 0 (commenting chosen) pieces
-  commenting_lays chosen = record {
-    untied = λ _. refl;
-    put = λ _. tt;
-    becomes = λ k piece at. cond_both (is_own chosen (0 + k)) (comments_of (closed piece).bytes) (closed piece ∷ []) (CanStandFor piece)
-        (λ _. CanStandFor-commented piece (element_at k piece at)) (λ _. CanStandFor-kept piece (element_at k piece at));
-  }
-
-  length-commented_closed : (k : ℕ) (piece : Piece) → slice_get pieces k ≡ Some piece → 1 ≤ length (comments_of (closed piece).bytes)
-  length-commented_closed k piece at = length-commented (closed piece) (IsClosed-closed piece (element_at k piece at)).element
-
-  commenting_puts_some : (chosen : List (Range ℕ)) → PutsSome (commenting chosen) pieces
-  commenting_puts_some chosen k piece at =
-      cond_both (is_own chosen k) (comments_of (closed piece).bytes) (closed piece ∷ []) (λ new. 1 ≤ length new) (λ _. length-commented_closed k piece at) (λ _. omega arith)
-
-  -- set: names and values can be written
-  module _ (action : Action) (items : List Item) (plain : AllByRecursion HasPlainName items)
-      (names : list_all is_plain_name (names_of_action action) ≡ true) (values : list_all (is_foldable 32) (values_of_action action) ≡ true)
-      (chosen : List (Range ℕ)) where
-    setting_lays : LaysWell 0 (setting action items pieces chosen) pieces
-    setting_lays = record {
-      untied = λ _. refl;
-      put = λ k. AllByRecursion-all IsClosed (λ own_range. if own_range.end == k then added action items (elements_in pieces own_range) else [])
-          (λ own_range. cond_both (own_range.end == k) (added action items (elements_in pieces own_range)) [] (AllByRecursion IsClosed)
-          (λ _. added_are_closed action items (elements_in pieces own_range) plain values) (λ _. tt)) chosen;
-      becomes = λ k piece at.
-          let whole_piece = element_at k piece at in
-          let same : 0 + k ≡ k = omega arith in
-          cond_both (is_picked items pieces chosen (0 + k)) (picked_becomes action (closed piece)) (closed piece ∷ []) (CanStandFor piece)
-          (λ picked. picked_can_stand piece whole_piece action (picked_is_plain items pieces chosen k piece plain at (ap (is_picked items pieces chosen) (sym same) ∙ picked)) names values)
-          (λ _. CanStandFor-kept piece whole_piece);
-    }
-
-  -- a picked field is replaced by at least one element
-  setting_puts_some : (action : Action) (items : List Item) (chosen : List (Range ℕ))
-      → ((k : ℕ) (piece : Piece) → slice_get pieces k ≡ Some piece → 1 ≤ length (picked_becomes action (closed piece))) → PutsSome (setting action items pieces chosen) pieces
-  setting_puts_some action items chosen some k piece at =
-      cond_both (is_picked items pieces chosen k) (picked_becomes action (closed piece)) (closed piece ∷ []) (λ new. 1 ≤ length new) (λ _. some k piece at) (λ _. omega arith)
-
-  deleting_puts_few : (items : List Item) (chosen : List (Range ℕ)) → PutsFew (setting Delete items pieces chosen)
-  deleting_puts_few items chosen = record {
-    put = λ k. flat_map-none (λ (own_range : Range ℕ). if own_range.end == k then added Delete items (elements_in pieces own_range) else [])
-        (λ own_range. cond_both (own_range.end == k) (added Delete items (elements_in pieces own_range)) [] (λ new. new ≡ []) (λ _. refl) (λ _. refl)) chosen;
-    becomes = λ k piece. cond_both (is_picked items pieces chosen k) [] (piece ∷ []) (λ new. length new ≤ 1) (λ _. omega arith) (λ _. omega arith);
-  }
-
-  setting_sizes : (action : Action) (items : List Item) (chosen : List (Range ℕ)) → PutsSome (setting action items pieces chosen) pieces ⊎ PutsFew (setting action items pieces chosen)
-  setting_sizes (Set value) items chosen = inl (setting_puts_some (Set value) items chosen (λ k piece at. omega arith))
-  setting_sizes (Add value) items chosen = inl (setting_puts_some (Add value) items chosen (λ k piece at. omega arith))
-  setting_sizes (SetAdd value) items chosen = inl (setting_puts_some (SetAdd value) items chosen (λ k piece at. omega arith))
-  setting_sizes (Rename name) items chosen = inl (setting_puts_some (Rename name) items chosen (λ k piece at. omega arith))
-  setting_sizes Delete items chosen = inr (deleting_puts_few items chosen)
-  setting_sizes CommentFields items chosen = inl (setting_puts_some CommentFields items chosen length-commented_closed)
 
 -- ---- what an edit has made of its texts
 
@@ -176,74 +82,9 @@ AreItemsFor-written action list items are =
     let split = names_split given (names_of_action action) is.names_are in
     record { plain = subst (AllByRecursion HasPlainName) (sym is.same) split.0; names = split.1; values = is.values_are }
 
--- no new record is put in, and no automatic field
-abbrev pub PutsNoneIn : Task → Type 0
-PutsNoneIn (insert record_type fresh auto) = ⊥
-PutsNoneIn (replace wanted fresh) = ⊥
-PutsNoneIn (delete wanted) = Unit {0}
-PutsNoneIn (comment_out wanted) = Unit {0}
-PutsNoneIn (set wanted list action) = Unit {0}
-PutsNoneIn auto_fill = ⊥
-
--- the step of each kind of edit
-pub step_is_laid : (pieces : List Piece) (schema : Described) (force : Bool) (task : Task) (edit : EditScript) → AreElementsOf pieces (text_of pieces) → PutsNoneIn task
-    → IsEditScript pieces schema force task (Ok edit) → IsLaid pieces edit.script
-step_is_laid pieces schema force (insert record_type fresh auto) edit are none is = absurd none
-step_is_laid pieces schema force (replace wanted fresh) edit are none is = absurd none
-step_is_laid pieces schema force (delete wanted) edit are none is =
-    let by = Then-ok (AreRemovable pieces schema.sets wanted force) (λ chosen. IsLaidOut pieces chosen (deletion pieces chosen)) edit is in
-    let ranges = map (with_blanks pieces) by.0 in
-    record {
-      layout = taking_out ranges;
-      is = script_is pieces by.0 (taking_out ranges) edit by.2;
-      lays = taking_out_lays pieces are.well_formed ranges;
-      sizes = inr (taking_out_puts_few pieces are.well_formed ranges);
-    }
-step_is_laid pieces schema force (comment_out wanted) edit are none is =
-    let by = Then-ok (AreRemovable pieces schema.sets wanted force) (λ chosen. IsLaidOut pieces chosen (commenting chosen)) edit is in
-    record {
-      layout = commenting by.0;
-      is = script_is pieces by.0 (commenting by.0) edit by.2;
-      lays = commenting_lays pieces are.well_formed by.0;
-      sizes = inl (commenting_puts_some pieces are.well_formed by.0);
-    }
-step_is_laid pieces schema force (set wanted list action) edit are none is =
-    let listed = Then-ok (AreItemsFor action list) (λ items. Then (AreChosen pieces schema.sets wanted) (λ chosen. IsLaidOut pieces chosen (setting action items pieces chosen))) edit is in
-    let items = listed.0 in
-    let by = Then-ok (AreChosen pieces schema.sets wanted) (λ chosen. IsLaidOut pieces chosen (setting action items pieces chosen)) edit listed.2 in
-    let can = AreItemsFor-written action list items listed.1 in
-    record {
-      layout = setting action items pieces by.0;
-      is = script_is pieces by.0 (setting action items pieces by.0) edit by.2;
-      lays = setting_lays pieces are.well_formed action items can.plain can.names can.values by.0;
-      sizes = setting_sizes pieces are.well_formed action items by.0;
-    }
-step_is_laid pieces schema force auto_fill edit are none is = absurd none
-
--- what a step makes of a text are elements again
-pub step_is_read : (pieces : List Piece) (schema : Described) (force : Bool) (task : Task) (edit : EditScript) → AreElementsOf pieces (text_of pieces) → PutsNoneIn task
-    → IsEditScript pieces schema force task (Ok edit) → AreElementsOf (new_pieces edit.script) (edited_text edit.script)
-step_is_read pieces schema force task edit are none is =
-    let laid = step_is_laid pieces schema force task edit are none is in
-    subst (λ script. AreElementsOf (new_pieces script) (edited_text script)) (sym laid.is) (new_pieces_are_read laid.layout pieces laid.lays)
-
 -- two lists of elements of one text are equal
 pub one_list_of_elements : (text : List ℕ) (some other : List Piece) → AreElementsOf some text → AreElementsOf other text → some ≡ other
 one_list_of_elements text some other are_some are_other = let same = one_reading text (Ok some) (Ok other) are_some are_other in cc
-
-unchanged_script : (layout : Layout) (pieces : List Piece) → LaysWell 0 layout pieces → PutsSome layout pieces ⊎ PutsFew layout
-    → new_pieces (script_of layout pieces) ≡ pieces → hunks_of (script_of layout pieces) ≡ []
-unchanged_script layout pieces lays (inl some) same = unchanged_by_some layout pieces lays.untied same some
-unchanged_script layout pieces lays (inr few) same = unchanged_by_few layout pieces lays.untied same few
-
--- where a step makes the old text, it has no hunk
-pub step_unchanged : (pieces : List Piece) (schema : Described) (force : Bool) (task : Task) (edit : EditScript) → AreElementsOf pieces (text_of pieces) → PutsNoneIn task
-    → IsEditScript pieces schema force task (Ok edit) → edited_text edit.script ≡ text_of pieces → hunks_of edit.script ≡ []
-step_unchanged pieces schema force task edit are none is unchanged =
-    let laid = step_is_laid pieces schema force task edit are none is in
-    let read = step_is_read pieces schema force task edit are none is in
-    let same : new_pieces edit.script ≡ pieces = one_list_of_elements (text_of pieces) (new_pieces edit.script) pieces (subst (AreElementsOf (new_pieces edit.script)) unchanged read) are in
-    ap hunks_of laid.is ∙ unchanged_script laid.layout pieces laid.lays laid.sizes (ap new_pieces (sym laid.is) ∙ same)
 
 -- ---- the outcome of an edit
 
@@ -270,25 +111,19 @@ HasOne-of_records pieces made one other (records, are, e) (others, are_too, k) =
     e ∙ ap (λ rs. Ok (made rs)) (OneListOfRecords-holds.records pieces records others are are_too) ∙ sym k
 
 HasOne-chosen : (pieces : List Piece) (sets : List Set_) (wanted : Wanted) → HasOne (AreChosen pieces sets wanted)
-HasOne-chosen pieces sets wanted =
-    HasOne-Then _ _ (one_selection pieces sets wanted.record_type wanted.filter) (λ selected _. HasOne-of_records pieces (λ records. filter_map (slice_get records) selected))
+HasOne-chosen pieces sets wanted = one_selection pieces sets wanted.record_type wanted.filter
+
+HasOne-made : (pieces : List Piece) (made : Block → List Part) (selected : List ℕ) → HasOne (IsMade pieces made selected)
+HasOne-made pieces made selected = HasOne-of_records pieces (made_of (Some (length selected)) (is_selected selected) (λ k. made) pieces)
 
 HasOne-removable : (pieces : List Piece) (sets : List Set_) (wanted : Wanted) (force : Bool) → HasOne (AreRemovable pieces sets wanted force)
 HasOne-removable pieces sets wanted force =
     HasOne-Then _ _ (HasOne-chosen pieces sets wanted) (λ chosen _. HasOne-Then _ _ (HasOne-same _) (λ _ _. HasOne-same _))
 
--- ---- the script of a layout
+-- ---- a new record that is put in
 
-HasOne-laid : {selected : Option ℕ} (pieces : List Piece) (chosen : List (Range ℕ)) (layout : Layout) → HasOne (IsLaidOutFor selected pieces chosen layout)
-HasOne-laid {selected} pieces chosen layout one other is is_too =
-    laid_out-is pieces {selected = selected} chosen layout one is ∙ sym (laid_out-is pieces {selected = selected} chosen layout other is_too)
-
-HasOne-put : (pieces : List Piece) (sets : List Set_) (record_type : Option (List ℕ)) (fields : List Piece)
-    → HasOne (λ answer. (records : List (Range ℕ)) × AreRecords pieces records × IsPutIn pieces records sets record_type fields answer)
-HasOne-put pieces sets record_type fields one other (records, are, is) (others, are_too, is_too) =
-    put_in-is pieces records sets record_type fields one is
-    ∙ ap (λ rs. Ok (insert_script pieces rs sets record_type fields)) (OneListOfRecords-holds.records pieces records others are are_too)
-    ∙ sym (put_in-is pieces others sets record_type fields other is_too)
+HasOne-put : (pieces : List Piece) (sets : List Set_) (record_type : Option (List ℕ)) (fields : List Piece) → HasOne (IsPutIn pieces sets record_type fields)
+HasOne-put pieces sets record_type fields = HasOne-of_records pieces (λ records. put_in (insertion_for pieces records sets record_type fields) pieces)
 
 -- ---- the new record
 
@@ -357,11 +192,17 @@ module _ (pieces : List Piece) where
       (AreOne-numbered next next_too (λ name one second. one_next rules other name (numbers name) one second (is_counter-same rules other name alike)) _) in
       AreOne-Then _ _ _ _ first (λ given _. AreOne-Then _ _ _ _ (AreOne-filled rules other alike (λ name. numbers_in given name ++ numbers name) records) (λ filled _. HasOne-same _))
 
+  AreOne-filled_set : (records : List (Range ℕ)) (s : Set_) (rules other : Rules) → AreSameRules rules other → AreOne (AreFilledSet pieces records s rules) (AreFilledSet pieces records s other)
+  AreOne-filled_set records s rules other alike =
+      let heads : List (List Numbered) = map (λ _. []) (option_to_list s.head) in
+      let headed : List (List Numbered) → Result (List (List Numbered)) Fault → Type 0 = λ filled answer. answer ≡ Ok (heads ++ filled) in
+      AreOne-Then _ _ headed headed (AreOne-filled rules other alike (readings pieces (members records s)) (members records s)) (λ filled _. HasOne-same (Ok (heads ++ filled)))
+
   AreOne-filled_sets : (records : List (Range ℕ)) (sets : List Set_) (rules others : List Rules) → AllZip AreSameRules rules others
       → AreOne (AreFilledSets pieces records sets rules) (AreFilledSets pieces records sets others)
   AreOne-filled_sets records [] [] [] alike = HasOne-same _
   AreOne-filled_sets records (s ∷ sets) (a ∷ rules) (b ∷ others) alike =
-      AreOne-Then _ _ _ _ (AreOne-filled a b alike.0 (readings pieces (members records s)) (members records s)) (λ own _.
+      AreOne-Then _ _ _ _ (AreOne-filled_set records s a b alike.0) (λ own _.
       AreOne-Then _ _ _ _ (AreOne-filled_sets records sets rules others alike.1) (λ filled _. HasOne-same _))
   AreOne-filled_sets records sets [] (b ∷ others) alike = absurd alike
   AreOne-filled_sets records sets (a ∷ rules) [] alike = absurd alike
@@ -370,16 +211,17 @@ module _ (pieces : List Piece) where
 
   -- what is made of the automatic fields
   abbrev are_filled : List Set_ → List Rules → List (Range ℕ) → Result EditScript Fault → Type 0
-  are_filled sets rules records = Then (AreFilledSets pieces records sets rules) (λ filled. IsLaidOutFor None pieces (map (λ one. one.range) filled) (filling filled))
+  are_filled sets rules records = Then (AreFilledSets pieces records sets rules) (λ given answer. answer ≡ Ok (made_of None (λ k. true) (λ k. filled (fields_at given k)) pieces records))
 
   AreOne-auto_fill : (sets : List Set_) (rules others : List Rules) → AllZip AreSameRules rules others
       → AreOne (λ answer. (records : List (Range ℕ)) × AreRecords pieces records × are_filled sets rules records answer)
       (λ answer. (records : List (Range ℕ)) × AreRecords pieces records × are_filled sets others records answer)
   AreOne-auto_fill sets rules others alike one other (records, are, is) (more, are_too, is_too) =
       let same : more ≡ records = OneListOfRecords-holds.records pieces more records are_too are in
-      let laid : List Filled → Result EditScript Fault → Type 0 = λ filled. IsLaidOutFor None pieces (map (λ one. one.range) filled) (filling filled) in
-      AreOne-Then _ _ laid laid (AreOne-filled_sets records sets rules others alike) (λ filled _. HasOne-laid pieces (map (λ one. one.range) filled) (filling filled))
-      one other is (subst (λ rs. are_filled sets others rs other) same is_too)
+      let made : List (List Numbered) → EditScript = λ given. made_of None (λ k. true) (λ k. filled (fields_at given k)) pieces records in
+      let is_made : List (List Numbered) → Result EditScript Fault → Type 0 = λ given answer. answer ≡ Ok (made given) in
+      AreOne-Then _ _ is_made is_made (AreOne-filled_sets records sets rules others alike) (λ given _. HasOne-same (Ok (made given))) one other is
+      (subst (λ rs. are_filled sets others rs other) same is_too)
 
 -- ---- one edit
 
@@ -394,11 +236,11 @@ AreOne-edit_script pieces sets rules others force (insert record_type fresh auto
     AreOne-Then _ _ _ _ (AreOne-automatic pieces (ruled sets rules) (ruled sets others) (refl, alike) record_type auto (map (λ pair. pair.name) pairs)) (λ automatic _.
     HasOne-put pieces sets record_type (numbered_fields automatic ++ fields_of pairs)))
 AreOne-edit_script pieces sets rules others force (replace wanted fresh) alike =
-    HasOne-Then _ _ (HasOne-new None fresh) (λ pairs _. HasOne-Then _ _ (HasOne-chosen pieces sets wanted) (λ chosen _. HasOne-laid pieces chosen (replacement (fields_of pairs) chosen)))
-AreOne-edit_script pieces sets rules others force (delete wanted) alike = HasOne-Then _ _ (HasOne-removable pieces sets wanted force) (λ chosen _. HasOne-laid pieces chosen (deletion pieces chosen))
-AreOne-edit_script pieces sets rules others force (comment_out wanted) alike = HasOne-Then _ _ (HasOne-removable pieces sets wanted force) (λ chosen _. HasOne-laid pieces chosen (commenting chosen))
+    HasOne-Then _ _ (HasOne-new None fresh) (λ pairs _. HasOne-Then _ _ (HasOne-chosen pieces sets wanted) (λ selected _. HasOne-made pieces (replaced (fields_of pairs)) selected))
+AreOne-edit_script pieces sets rules others force (delete wanted) alike = HasOne-Then _ _ (HasOne-removable pieces sets wanted force) (λ selected _. HasOne-made pieces deleted selected)
+AreOne-edit_script pieces sets rules others force (comment_out wanted) alike = HasOne-Then _ _ (HasOne-removable pieces sets wanted force) (λ selected _. HasOne-made pieces commented selected)
 AreOne-edit_script pieces sets rules others force (set wanted list action) alike =
-    HasOne-Then _ _ (HasOne-items action list) (λ items _. HasOne-Then _ _ (HasOne-chosen pieces sets wanted) (λ chosen _. HasOne-laid pieces chosen (setting action items pieces chosen)))
+    HasOne-Then _ _ (HasOne-items action list) (λ items _. HasOne-Then _ _ (HasOne-chosen pieces sets wanted) (λ selected _. HasOne-made pieces (edited action items) selected))
 AreOne-edit_script pieces sets rules others force auto_fill alike = AreOne-auto_fill pieces sets rules others alike
 
 AreOne-step : (pieces : List Piece) (schema same : Described) (force : Bool) (task : Task) → AreSameSchemas (Ok schema) (Ok same)

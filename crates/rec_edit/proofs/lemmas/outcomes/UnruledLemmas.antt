@@ -1,6 +1,6 @@
 -- A text without a descriptor breaks no rule, and an edit that puts none in leaves it so.
-use Rattle.std.proofs.Common.{Bool, List, Ok, ◌≡◌, ◌∙◌, ℕ, zero, suc, ◌+◌, ◌-◌, true, false, ◌==◌, [], ◌∷◌, ◌++◌, Option, Some, None, length, map, take, drop, refl, ap, sym, subst, arith, ◌&&◌, not}
-use Rattle.std.proofs.Common.{inr}
+use Rattle.std.proofs.Common.{Bool, List, Ok, ◌≡◌, ◌∙◌, ℕ, zero, suc, ◌+◌, ◌-◌, true, false, ◌==◌, [], ◌∷◌, ◌++◌, Option, Some, None, length, map, take, drop, refl, ap, sym, subst, arith}
+use Rattle.std.proofs.Common.{◌&&◌, not, inr}
 use Rattle.std.specs.Prelude.{filter_map, flat_map, replicate, is_some, slice_get, if◌then◌else◌, filter}
 use Rattle.std.specs.List.{AllByRecursion, AllZip, list_any, enumerate_from, cons_option}
 use Rattle.std.specs.Option.{option_map_or}
@@ -15,20 +15,22 @@ use Rattle.rec_check.specs.declared.set.Set_.{Set_}
 use Rattle.rec_check.specs.Descriptors.{type_of, types_of}
 use Rattle.rec_check.specs.Sets.{AreSets, IsUntypedFirst, named_in, AreFrom}
 use Rattle.rec_edit.specs.Script.{closed, new_pieces, edited_text}
-use Rattle.rec_edit.specs.Effect.{AreTypedRecords, TypedRecord, IsFilledUp, AreRecordsAfter, automatic_at, between_fields, typed_records, typed_record, type_after, put_at, remade, with_fields}
+use Rattle.rec_edit.specs.Effect.{AreTypedRecords, TypedRecord, IsFilledUp, AreRecordsAfter, automatic_at, between_fields, typed_records, typed_record, type_after, put_at, remade}
+use Rattle.rec_edit.specs.Effect.{with_fields}
 use Rattle.rec_edit.specs.Insertions.{numbered_fields}
 use Rattle.rec_edit.specs.Rules.{fields_of}
 use Rattle.rec_text.specs.declared.violations.Rule.TheVariants.{Allowed, Fit}
 use Rattle.rec_text.specs.declared.violations.Violation.{Violation}
 use Rattle.rec_check.specs.Rules.{Rules, no_rules, AreRules, field_type}
-use Rattle.rec_check.specs.Violations.{violation, names_of, is_allowed, allowed_violations, misfits, type_violations, line_at, members, AreOfRecord, AreOfRecords, AreOfSet, AreOfSets, AreViolations}
+use Rattle.rec_check.specs.Violations.{violation, names_of, is_allowed, allowed_violations, misfits, type_violations, line_at, members, AreOfRecord, AreOfRecords, AreOfSet, AreOfSets}
+use Rattle.rec_check.specs.Violations.{AreViolations}
 use Rattle.rec_check.specs.Words.{distinct}
 use Rattle.rec_edit.proofs.lemmas.automatic.AutoFillLemmas.{faithful_auto_fill}
-use Rattle.rec_edit.proofs.lemmas.outcomes.EffectLemmas.{step_has_effect, step_is_sound, elements_part, type_of-closed}
+use Rattle.rec_edit.proofs.lemmas.outcomes.EffectLemmas.{elements_part, type_of-closed}
 use Rattle.rec_edit.proofs.lemmas.outcomes.AnswerLemmas.{IsFaithful}
 use Rattle.rec_edit.proofs.lemmas.insertions.InsertLemmas.{faithful_insert}
-use Rattle.rec_edit.proofs.lemmas.outcomes.OutcomeLemmas.{PutsNoneIn, step_is_laid, step_is_read, step_unchanged, one_list_of_elements}
-use Rattle.rec_edit.proofs.lemmas.layouts.ReplaceLemmas.{faithful_replace}
+use Rattle.rec_edit.proofs.lemmas.outcomes.OutcomeLemmas.{one_list_of_elements}
+use Rattle.rec_edit.proofs.lemmas.blocks.FaithfulLemmas.{faithful_delete, faithful_comment_out, faithful_replace, faithful_set}
 use Rattle.rec_text.proofs.lemmas.ListLemmas.{AllByRecursion-prefix, AllByRecursion-following, AllByRecursion-append}
 use Rattle.rec_text.proofs.lemmas.records.RecordLemmas.{OneListOfRecords-holds}
 use Rattle.rec_edit.proofs.lemmas.records.TypedRecordLemmas.{type_after-none}
@@ -36,28 +38,13 @@ use Rattle.rec_check.proofs.lemmas.checks.UnresolvedLemmas.{head_violations-none
 
 -- ---- each step of an edit is faithful, whatever its kind
 
--- a step of an edit that puts nothing in
-faithful_put_none : (pieces : List Piece) (schema : Described) (force : Bool) (task : Task) (edit : EditScript) → PutsNoneIn task
-    → AreElementsOf pieces (text_of pieces) → IsSchema pieces (Ok schema) → IsEditScript pieces schema force task (Ok edit) → IsFaithful pieces schema task edit
-faithful_put_none pieces schema force task edit none elements is_schema is =
-    let laid = step_is_laid pieces schema force task edit elements none is in
-    let read = step_is_read pieces schema force task edit elements none is in
-    record {
-      layout = laid.layout;
-      is = laid.is;
-      read = read;
-      unchanged = step_unchanged pieces schema force task edit elements none is;
-      sound = step_is_sound pieces schema force task edit none read is_schema elements is;
-      effect = step_has_effect pieces schema force task edit none read is_schema elements is;
-    }
-
 pub faithful : (pieces : List Piece) (schema : Described) (force : Bool) (task : Task) → AreElementsOf pieces (text_of pieces) → IsSchema pieces (Ok schema)
     → (edit : EditScript) → IsEditScript pieces schema force task (Ok edit) → IsFaithful pieces schema task edit
 faithful pieces schema force (insert record_type fresh auto) elements is_schema edit is = faithful_insert pieces schema force record_type fresh auto edit elements is_schema is
-faithful pieces schema force (replace wanted fresh) elements is_schema edit is = faithful_replace pieces schema force wanted fresh edit elements is_schema is
-faithful pieces schema force (delete wanted) elements is_schema edit is = faithful_put_none pieces schema force (delete wanted) edit tt elements is_schema is
-faithful pieces schema force (comment_out wanted) elements is_schema edit is = faithful_put_none pieces schema force (comment_out wanted) edit tt elements is_schema is
-faithful pieces schema force (set wanted list action) elements is_schema edit is = faithful_put_none pieces schema force (set wanted list action) edit tt elements is_schema is
+faithful pieces schema force (replace wanted fresh) elements is_schema edit is = faithful_replace pieces schema elements is_schema force wanted fresh edit is
+faithful pieces schema force (delete wanted) elements is_schema edit is = faithful_delete pieces schema elements is_schema force wanted edit is
+faithful pieces schema force (comment_out wanted) elements is_schema edit is = faithful_comment_out pieces schema elements is_schema force wanted edit is
+faithful pieces schema force (set wanted list action) elements is_schema edit is = faithful_set pieces schema elements is_schema force wanted list action edit is
 faithful pieces schema force auto_fill elements is_schema edit is = faithful_auto_fill pieces schema force edit elements is_schema is
 
 -- ---- records of no type: they are all of those of a text with one set, and an edit that puts no descriptor in leaves none else

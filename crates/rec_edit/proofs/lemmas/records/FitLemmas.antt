@@ -1,27 +1,23 @@
--- A layout, record by record: what stands instead of each of them, and what between them.
-use Rattle.std.proofs.Common.{◌≡◌, ◌∙◌, ℕ, zero, suc, ◌+◌, ◌-◌, ◌<◌, ◌≤◌, Bool, true, false, not, List, [], ◌∷◌, ◌++◌, length, take, drop, map, refl, ap, sym, inl, inr, arith, ◌==◌, None, ◌⊎◌, subst}
-use Rattle.std.specs.Prelude.{slice_get, flat_map}
+-- A text, cut at its records: the own elements of each, and what stands between them.
+use Rattle.std.proofs.Common.{◌≡◌, ◌∙◌, ℕ, zero, suc, ◌+◌, ◌-◌, ◌<◌, ◌≤◌, Bool, true, false, not, List, [], ◌∷◌, ◌++◌, length, take, drop, map, refl, ap, sym, inl, inr, arith}
+use Rattle.std.specs.Prelude.{slice_get}
 use Rattle.std.specs.List.{AllByRecursion, list_any}
 use Rattle.std.specs.Option.{option_map_or}
 use Rattle.std.specs.declared.ops.Range.{Range}
-use Rattle.std.proofs.lemmas.Bool.{cases_Bool, cases_lt, false≢true, or_left, or_right, or_from, or_parts}
-use Rattle.std.proofs.lemmas.List.{drop-append-le, length-drop, length-take-le, take-append-drop, length-map, append_assoc, append-nil, length_push}
+use Rattle.std.proofs.lemmas.Bool.{cases_Bool, cases_lt, false≢true, or_left, or_right, or_from}
+use Rattle.std.proofs.lemmas.List.{drop-append-le, length-drop, length-take-le, take-append-drop, length-map}
 use Rattle.std.proofs.lemmas.List.Folds.{list_any-append}
-use Rattle.rec_text.specs.Elements.{Piece, has_name}
+use Rattle.rec_text.specs.Elements.{Piece}
 use Rattle.rec_text.specs.Records.{AreAscending, AreRecords, IsRecord, LiesIn, elements_in, is_blank_at, is_blank_piece, is_field_at, is_field_piece, is_full_at}
 use Rattle.rec_text.specs.proving.Scanned.{all_narrowed, runs_to}
 use Rattle.rec_edit.specs.Effect.{from_field, between_fields}
-use Rattle.rec_check.specs.Descriptors.{rec_name, type_of}
-use Rattle.rec_edit.specs.Script.{Layout, closed}
-use Rattle.rec_text.proofs.lemmas.ListLemmas.{AllByRecursion-weaker, slice_get-drop, slice_get-take, AllByRecursion-push, AllByRecursion-append}
+use Rattle.rec_edit.specs.Script.{closed}
+use Rattle.rec_text.proofs.lemmas.ListLemmas.{AllByRecursion-weaker, slice_get-drop, slice_get-take}
 use Rattle.rec_text.proofs.lemmas.records.RangeLemmas.{LiesIn-cases, LiesIn-low, LiesIn-nil}
 use Rattle.rec_text.proofs.lemmas.records.RecordLemmas.{AreRecords-all_narrowed, field_is_full}
 use Rattle.rec_text.proofs.lemmas.records.RunLemmas.{AreRuns-runs_to}
-use Rattle.rec_edit.proofs.lemmas.records.TypedRecordLemmas.{kept, up_to_field, between_fields-up_to, Spaced, closes, with_own, own_of, own_of-Spaced, IsTurned, AreTurned, from_field-map}
-use Rattle.rec_edit.proofs.lemmas.records.TypedRecordLemmas.{up_to_field-map, type_of-none, between_fields-fails}
-use Rattle.rec_edit.proofs.lemmas.scripts.LaidLemmas.{laid_from, laid_from-append, closed-blank, closed-field}
-
--- ---- a text, cut at its records: what stands between them, by index
+use Rattle.rec_edit.proofs.lemmas.records.TypedRecordLemmas.{kept, up_to_field, between_fields-up_to, Spaced, closes, with_own, own_of, own_of-Spaced, from_field-map, up_to_field-map}
+use Rattle.rec_edit.proofs.lemmas.scripts.LaidLemmas.{closed-blank, closed-field}
 
 -- ---- tests by index
 
@@ -217,22 +213,7 @@ module _ (pieces : List Piece) where
       let paragraphs = runs_to (is_full_at pieces) (length pieces) 0 in
       (all_narrowed (is_field_at pieces) paragraphs, AreRecords-all_narrowed pieces paragraphs (AreRuns-runs_to (is_full_at pieces) (length pieces)))
 
--- ---- a layout, record by record: what stands instead of each of them, and what between them
-
--- ---- stretches that stay
-
--- the element of an index stays, and nothing is put after it
-pub record KeepsAt (layout : Layout) (i : ℕ) : Type 0 where
-  pub stays : (piece : Piece) → layout.becomes i piece ≡ piece ∷ []
-  pub alone : layout.put (i + 1) ≡ []
-
-pub laid_from-kept : (layout : Layout) (i : ℕ) (pieces : List Piece) → ((k : ℕ) → i ≤ k → k < i + length pieces → KeepsAt layout k) → laid_from layout i pieces ≡ map closed pieces
-laid_from-kept layout i [] keeps = refl
-laid_from-kept layout i (piece ∷ pieces) keeps =
-    let here = keeps i (omega arith) (omega arith) in
-    ap (λ l. l ++ (layout.put (i + 1) ++ laid_from layout (i + 1) pieces)) (here.stays (closed piece))
-    ∙ ap (λ l. closed piece ∷ (l ++ laid_from layout (i + 1) pieces)) here.alone
-    ∙ ap (λ l. closed piece ∷ l) (laid_from-kept layout (i + 1) pieces (λ k low high. keeps k (omega arith) (omega arith)))
+-- ---- elements with their newlines
 
 pub list_any-closed : (test : Piece → Bool) → ((piece : Piece) → test (closed piece) ≡ test piece) → (pieces : List Piece) → list_any test (map closed pieces) ≡ list_any test pieces
 list_any-closed test same [] = refl
@@ -246,215 +227,7 @@ closed-own own is = record {
   full = list_any-closed is_blank_piece closed-blank own ∙ is.full;
 }
 
--- ---- what fits
+-- ---- tests of two lists
 
-module _ (pieces : List Piece) (layout : Layout) (selected : List ℕ) (made : List Piece → List Piece) where
-  -- what is laid instead of a record
-  abbrev pub laid_at : Range ℕ → List Piece
-  laid_at r = laid_from layout r.start (elements_in pieces r)
-
-  -- what is laid instead of the record of this index
-  pub record IsLaid (i : ℕ) (own laid : List Piece) : Type 0 where
-    pub full : list_any is_blank_piece laid ≡ false
-    pub stays : list_any (λ k. k == i) selected ≡ false → laid ≡ map closed own
-    pub changes : list_any (λ k. k == i) selected ≡ true → between_fields laid ≡ between_fields (made (map closed own))
-    pub still : list_any (λ k. k == i) selected ≡ true → list_any (has_name rec_name) laid ≡ false
-
-  -- What is laid from an element on, in which these are the records, the first of this index among all. No field is laid between
-  -- records. A blank element is, except after one of which nothing is left; before the first where `apart` says so.
-  abbrev pub Fits : Bool → ℕ → ℕ → List (Range ℕ) → Type 0
-  Fits apart n i [] = list_any is_field_piece (laid_from layout n (drop n pieces)) ≡ false
-  Fits apart n i (r ∷ records) = (later : Bool) × (list_any is_field_piece (laid_from layout n (drop n (take r.start pieces))) ≡ false)
-      × (apart ≡ true → list_any is_blank_piece (laid_from layout n (drop n (take r.start pieces))) ≡ true)
-      × IsLaid i (elements_in pieces r) (laid_at r) × (later ≡ false → laid_at r ≡ []) × Fits later r.end (i + 1) records
-
-  laid_parts : (n start end : ℕ) → n ≤ start → start < end → end ≤ length pieces
-      → laid_from layout n (drop n pieces) ≡ laid_from layout n (drop n (take start pieces)) ++ (laid_from layout start (drop start (take end pieces)) ++ laid_from layout end (drop end pieces))
-  laid_parts n start end low some within =
-      let gap : List Piece = drop n (take start pieces) in
-      let own : List Piece = drop start (take end pieces) in
-      let to_start : n + length gap ≡ start = omega (arith, length-part pieces n start low (omega arith)) in
-      let to_end : start + length own ≡ end = omega (arith, length-part pieces start end (omega arith) within) in
-      let second : laid_from layout start (drop start pieces) ≡ laid_from layout start own ++ laid_from layout end (drop end pieces) =
-      ap (laid_from layout start) (drop-part pieces start end (omega arith) within) ∙ laid_from-append layout start own (drop end pieces)
-      ∙ ap (λ m. laid_from layout start own ++ laid_from layout m (drop end pieces)) to_end in
-      ap (laid_from layout n) (drop-part pieces n start low (omega arith)) ∙ laid_from-append layout n gap (drop start pieces)
-      ∙ ap (λ m. laid_from layout n gap ++ laid_from layout m (drop start pieces)) to_start ∙ ap (λ l. laid_from layout n gap ++ l) second
-
-  pub Spaced-Fits : (before apart : Bool) (n i : ℕ) (records : List (Range ℕ)) → Cut pieces before n records → Fits apart n i records
-      → Spaced apart (laid_from layout n (drop n pieces)) (map laid_at records)
-  Spaced-Fits before apart n i [] cut fits = fits
-  Spaced-Fits before apart n i (r ∷ records) (low, some, within, none, between, own, more) (later, no_field, blank, laid, gone, rest) = (
-    laid_from layout n (drop n (take r.start pieces)),
-    laid_from layout r.end (drop r.end pieces),
-    later,
-    laid_parts n r.start r.end low some within,
-    no_field,
-    blank,
-    laid.full,
-    gone,
-    Spaced-Fits true later r.end (i + 1) records more rest,
-  )
-
-  turned : (i : ℕ) (own laid : List Piece) → IsOwn own → IsLaid i own laid → (list_any (λ k. k == i) selected ≡ true → type_of (map closed own) ≡ None) → IsTurned selected made i (map closed own) laid
-  turned i own laid is lies plain =
-      let shut = closed-own own is in
-      record {
-        some = shut.some;
-        stays = λ leaves. ap between_fields (lies.stays leaves) ∙ between_fields-own (map closed own) shut;
-        changes = lies.changes;
-        plain = plain;
-        still = λ takes. type_of-none (between_fields laid) (between_fields-fails (has_name rec_name) laid (lies.still takes));
-      }
-
-  -- no descriptor is selected
-  abbrev pub ArePlain : ℕ → List (Range ℕ) → Type 0
-  ArePlain i [] = Unit {0}
-  ArePlain i (r ∷ records) = (list_any (λ k. k == i) selected ≡ true → type_of (map closed (elements_in pieces r)) ≡ None) × ArePlain (i + 1) records
-
-  pub AreTurned-Fits : (before apart : Bool) (n i : ℕ) (records : List (Range ℕ)) → Cut pieces before n records → ArePlain i records → Fits apart n i records
-      → AreTurned selected made i (map (λ r. map closed (elements_in pieces r)) records) (map laid_at records)
-  AreTurned-Fits before apart n i [] cut plain fits = tt
-  AreTurned-Fits before apart n i (r ∷ records) (low, some, within, none, between, own, more) plain (later, no_field, blank, laid, gone, rest) =
-      (turned i (elements_in pieces r) (laid_at r) own laid plain.0, AreTurned-Fits true later r.end (i + 1) records more plain.1 rest)
-
--- ---- layouts that keep what stands between records: they fit, record by record
-
--- ---- tests of what is laid
-
-append_fails : (test : Piece → Bool) (some more : List Piece) → list_any test some ≡ false → list_any test more ≡ false → list_any test (some ++ more) ≡ false
+pub append_fails : (test : Piece → Bool) (some more : List Piece) → list_any test some ≡ false → list_any test more ≡ false → list_any test (some ++ more) ≡ false
 append_fails test some more first second = list_any-append test some more ∙ or_from (list_any test some) (list_any test more) first second
-
-pub flat_map_fails : {X : Type 0} (test : Piece → Bool) (f : X → List Piece) (xs : List X) → ((x : X) → list_any test (f x) ≡ false) → list_any test (flat_map f xs) ≡ false
-flat_map_fails test f [] fails = refl
-flat_map_fails test f (x ∷ xs) fails = append_fails test (f x) (flat_map f xs) (fails x) (flat_map_fails test f xs fails)
-
-pub laid_from-fails : (test : Piece → Bool) (layout : Layout) (IsFine : Piece → Type 0) (i : ℕ) (pieces : List Piece) → AllByRecursion IsFine pieces
-    → ((k : ℕ) (piece : Piece) → i ≤ k → k < i + length pieces → IsFine piece → list_any test (layout.becomes k (closed piece)) ≡ false)
-    → ((k : ℕ) → i ≤ k → k < i + length pieces → list_any test (layout.put (k + 1)) ≡ false) → list_any test (laid_from layout i pieces) ≡ false
-laid_from-fails test layout IsFine i [] fine becomes put = refl
-laid_from-fails test layout IsFine i (piece ∷ pieces) fine becomes put =
-    append_fails test (layout.becomes i (closed piece)) (layout.put (i + 1) ++ laid_from layout (i + 1) pieces) (becomes i piece (omega arith) (omega arith) fine.0)
-    (append_fails test (layout.put (i + 1)) (laid_from layout (i + 1) pieces) (put i (omega arith) (omega arith))
-    (laid_from-fails test layout IsFine (i + 1) pieces fine.1 (λ k piece low high. becomes k piece (omega arith) (omega arith)) (λ k low high. put k (omega arith) (omega arith))))
-
-up_to_field-none : (pieces : List Piece) → list_any is_field_piece pieces ≡ false → up_to_field pieces ≡ []
-up_to_field-none [] none = refl
-up_to_field-none (piece ∷ pieces) none =
-    let parts = or_parts (is_field_piece piece) (list_any is_field_piece pieces) none in
-    let other = parts.0 in
-    ap (kept piece) (up_to_field-none pieces parts.1) ∙ rw other refl
-
-pub between_fields-none : (pieces : List Piece) → list_any is_field_piece pieces ≡ false → between_fields pieces ≡ []
-between_fields-none pieces none = between_fields-up_to pieces ∙ ap from_field (up_to_field-none pieces none)
-
-pub all_fine : (pieces : List Piece) → AllByRecursion (λ piece. Unit {0}) pieces
-all_fine [] = tt
-all_fine (piece ∷ pieces) = (tt, all_fine pieces)
-
--- ---- records before and after an index
-
--- a record that ends here or before, one that begins here or after
-abbrev pub EndsBy : ℕ → Range ℕ → Type 0
-EndsBy n q = (q.start < q.end) × (q.end ≤ n)
-
-abbrev pub BeginsFrom : ℕ → Range ℕ → Type 0
-BeginsFrom n q = (q.start < q.end) × (n ≤ q.start)
-
--- no element of a record has this index
-abbrev pub LeavesOut : ℕ → Range ℕ → Type 0
-LeavesOut i q = (q.start < q.end) × ((i < q.start) ⊎ (q.end ≤ i))
-
-pub all_begin : (pieces : List Piece) (apart : Bool) (n : ℕ) (records : List (Range ℕ)) → Cut pieces apart n records → AllByRecursion (BeginsFrom n) records
-all_begin pieces apart n [] cut = tt
-all_begin pieces apart n (r ∷ records) (low, some, within, none, between, own, more) =
-    ((some, low), AllByRecursion-weaker (BeginsFrom r.end) (BeginsFrom n) (λ q begins. (begins.0, omega (arith, begins.0, begins.1))) records (all_begin pieces true r.end records more))
-
-pub all_end : (n m : ℕ) (records : List (Range ℕ)) → n ≤ m → AllByRecursion (EndsBy n) records → AllByRecursion (EndsBy m) records
-all_end n m records le all = AllByRecursion-weaker (EndsBy n) (EndsBy m) (λ q ends. (ends.0, omega (arith, ends.0, ends.1))) records all
-
-left_out : (i n m : ℕ) (before following : List (Range ℕ)) → n ≤ i → i < m → AllByRecursion (EndsBy n) before → AllByRecursion (BeginsFrom m) following
-    → AllByRecursion (LeavesOut i) (before ++ following)
-left_out i n m before following low high ended begun =
-    AllByRecursion-append (LeavesOut i) before following
-    (AllByRecursion-weaker (EndsBy n) (LeavesOut i) (λ q ends. (ends.0, inr (omega (arith, ends.1)))) before ended)
-    (AllByRecursion-weaker (BeginsFrom m) (LeavesOut i) (λ q begins. (begins.0, inl (omega (arith, begins.1)))) following begun)
-
--- ---- the walk
-
-module _ (pieces : List Piece) (layout : Layout) (selected : List ℕ) (made : List Piece → List Piece) (records : List (Range ℕ)) where
-  -- the records before this one, and those after it
-  pub record StandsBetween (before : List (Range ℕ)) (r : Range ℕ) (following : List (Range ℕ)) : Type 0 where
-    pub parts : records ≡ before ++ r ∷ following
-    pub some : r.start < r.end
-    pub within : r.end ≤ length pieces
-    pub ended : AllByRecursion (EndsBy r.start) before
-    pub begun : AllByRecursion (BeginsFrom r.end) following
-    pub own : IsOwn (elements_in pieces r)
-
-  -- Elements stay outside of the records and in those that aren't selected.
-  pub record IsInner : Type 0 where
-    pub outside : (i : ℕ) → AllByRecursion (LeavesOut i) records → KeepsAt layout i
-    pub unchosen : (before : List (Range ℕ)) (r : Range ℕ) (following : List (Range ℕ)) → StandsBetween before r following → list_any (λ k. k == length before) selected ≡ false
-        → (i : ℕ) → r.start ≤ i → i < r.end → KeepsAt layout i
-    pub full : (before : List (Range ℕ)) (r : Range ℕ) (following : List (Range ℕ)) → StandsBetween before r following → list_any (λ k. k == length before) selected ≡ true
-        → list_any is_blank_piece (laid_at pieces layout selected made r) ≡ false
-    pub changes : (before : List (Range ℕ)) (r : Range ℕ) (following : List (Range ℕ)) → StandsBetween before r following → list_any (λ k. k == length before) selected ≡ true
-        → between_fields (laid_at pieces layout selected made r) ≡ between_fields (made (map closed (elements_in pieces r)))
-    pub still : (before : List (Range ℕ)) (r : Range ℕ) (following : List (Range ℕ)) → StandsBetween before r following → list_any (λ k. k == length before) selected ≡ true
-        → list_any (has_name rec_name) (laid_at pieces layout selected made r) ≡ false
-
-  module _ (inner : IsInner) where
-    gap_stays : (n m : ℕ) (before following : List (Range ℕ)) → records ≡ before ++ following → n ≤ m → m ≤ length pieces → AllByRecursion (EndsBy n) before → AllByRecursion (BeginsFrom m) following
-        → laid_from layout n (drop n (take m pieces)) ≡ map closed (drop n (take m pieces))
-    gap_stays n m before following parts low within ended begun =
-        laid_from-kept layout n (drop n (take m pieces)) (λ k above below.
-        inner.outside k (subst (AllByRecursion (LeavesOut k)) (sym parts) (left_out k n m before following above (omega (arith, length-part pieces n m low within)) ended begun)))
-
-    rest_stays : (n : ℕ) (before : List (Range ℕ)) → records ≡ before → AllByRecursion (EndsBy n) before → laid_from layout n (drop n pieces) ≡ map closed (drop n pieces)
-    rest_stays n before parts ended =
-        laid_from-kept layout n (drop n pieces) (λ k above below.
-        inner.outside k (subst (AllByRecursion (LeavesOut k)) (sym parts)
-        (AllByRecursion-weaker (EndsBy n) (LeavesOut k) (λ q ends. (ends.0, inr (omega (arith, ends.1)))) before ended)))
-
-    laid_so : (before : List (Range ℕ)) (r : Range ℕ) (following : List (Range ℕ)) → StandsBetween before r following
-        → IsLaid pieces layout selected made (length before) (elements_in pieces r) (laid_at pieces layout selected made r)
-    laid_so before r following stands =
-        let stays : list_any (λ k. k == length before) selected ≡ false → laid_at pieces layout selected made r ≡ map closed (elements_in pieces r) = λ leaves.
-        laid_from-kept layout r.start (elements_in pieces r) (λ k low high.
-        inner.unchosen before r following stands leaves k low (omega (arith, length-part pieces r.start r.end (omega (arith, stands.some)) stands.within, stands.some))) in
-        record {
-          full = elim (cases_Bool (list_any (λ k. k == length before) selected)) [
-            | inl takes ↦ inner.full before r following stands takes
-            | inr leaves ↦ ap (list_any is_blank_piece) (stays leaves) ∙ list_any-closed is_blank_piece closed-blank (elements_in pieces r) ∙ stands.own.full
-          ];
-          stays = stays;
-          changes = inner.changes before r following stands;
-          still = inner.still before r following stands;
-        }
-
-    inner_fits : (apart : Bool) (n : ℕ) (before following : List (Range ℕ)) → records ≡ before ++ following → AllByRecursion (EndsBy n) before → Cut pieces apart n following
-        → Fits pieces layout selected made apart n (length before) following
-    inner_fits apart n before [] parts ended cut =
-        ap (list_any is_field_piece) (rest_stays n before (parts ∙ append-nil before) ended) ∙ list_any-closed is_field_piece closed-field (drop n pieces) ∙ cut
-    inner_fits apart n before (r ∷ following) parts ended (low, some, within, none, between, own, more) =
-        let begun : AllByRecursion (BeginsFrom r.end) following = all_begin pieces true r.end following more in
-        let stands : StandsBetween before r following =
-        record { parts = parts; some = some; within = within; ended = all_end n r.start before low ended; begun = begun; own = own } in
-        let all_following : AllByRecursion (BeginsFrom r.start) (r ∷ following) =
-        ((some, omega arith), AllByRecursion-weaker (BeginsFrom r.end) (BeginsFrom r.start) (λ q begins. (begins.0, omega (arith, begins.1))) following begun) in
-        let gap = gap_stays n r.start before (r ∷ following) parts low (omega arith) ended all_following in
-        let moved : records ≡ (before ++ r ∷ []) ++ following = parts ∙ sym (append_assoc before (r ∷ []) following) in
-        let count : length (before ++ r ∷ []) ≡ length before + 1 = length_push before r in (
-          true,
-          ap (list_any is_field_piece) gap ∙ list_any-closed is_field_piece closed-field (drop n (take r.start pieces)) ∙ none,
-          λ needed. ap (list_any is_blank_piece) gap ∙ list_any-closed is_blank_piece closed-blank (drop n (take r.start pieces)) ∙ between needed,
-          laid_so before r following stands,
-          λ gone. absurd (false≢true (sym gone)),
-          subst (λ m. Fits pieces layout selected made true r.end m following) count
-              (inner_fits true r.end (before ++ r ∷ []) following moved
-              (AllByRecursion-push (EndsBy r.end) before r (all_end n r.end before (omega arith) ended) (some, omega arith)) more),
-        )
-
-    pub Fits-inner : Cut pieces false 0 records → Fits pieces layout selected made false 0 0 records
-    Fits-inner cut = inner_fits false 0 [] records refl tt cut

@@ -113,7 +113,7 @@ own_of-gap (piece ∷ gap) rest none =
 kept-none : (piece : Piece) → is_field_piece piece ≡ false → kept piece [] ≡ []
 kept-none piece other = rw other refl
 
-open_of-gap : (gap rest : List Piece) → list_any is_field_piece gap ≡ false → list_any is_blank_piece gap ≡ true → open_of (gap ++ rest) ≡ []
+pub open_of-gap : (gap rest : List Piece) → list_any is_field_piece gap ≡ false → list_any is_blank_piece gap ≡ true → open_of (gap ++ rest) ≡ []
 open_of-gap [] rest none some = absurd (false≢true some)
 open_of-gap (piece ∷ gap) rest none some =
     let parts = or_parts (is_field_piece piece) (list_any is_field_piece gap) none in
@@ -254,10 +254,6 @@ none-find test (x ∷ xs) none = elim (cases_Bool (test x)) [
   | inr fails ↦ or_from (test x) (list_any test xs) fails (none-find test xs (rw fails at none))
 ]
 
--- no element is a `%rec` field
-abbrev pub is_named : List Piece → Bool
-is_named own = list_any (has_name rec_name) own
-
 pub type_of-none : (own : List Piece) → list_any (has_name rec_name) own ≡ false → type_of own ≡ None
 type_of-none own none = ap (option_map (λ piece. first_word (words (value_of piece)))) (find-none (has_name rec_name) own none)
 
@@ -301,9 +297,6 @@ pub type_after-none : (record_type : Option (List ℕ)) (own : List Piece) → t
 type_after-none record_type own none = ap (λ o. elim o as (λ x. Option (List ℕ)) [ None ↦ record_type | Some named ↦ Some named ]) none
 
 module _ (selected : List ℕ) (made : List Piece → List Piece) where
-  abbrev is_selected : ℕ → Bool
-  is_selected i = list_any (λ k. k == i) selected
-
   abbrev gives : ℕ × TypedRecord → Option TypedRecord
   gives (i, typed) = if list_any (λ k. k == i) selected then typed_record typed.record_type (made typed.own) else Some typed
 

@@ -1,5 +1,5 @@
 -- The laws of a script: its old elements are those of the text, and its hunks are a patch to the edited text; and its draft, part by part.
-use Rattle.std.proofs.Common.{◌≡◌, ◌≢◌, ◌∙◌, ℕ, ◌+◌, ◌≤◌, Bool, true, false, List, [], ◌∷◌, ◌++◌, ◌==◌, length, refl, ap, sym, subst, inl, inr, arith, append_assoc, Option, Some, None, append-nil}
+use Rattle.std.proofs.Common.{◌≡◌, ◌≢◌, ◌∙◌, ℕ, ◌+◌, ◌≤◌, true, false, List, [], ◌∷◌, ◌++◌, ◌==◌, length, refl, ap, sym, subst, inl, inr, arith, append_assoc, Option, Some, None, append-nil}
 use Rattle.std.specs.List.{AllByRecursion}
 use Rattle.std.specs.Str.{bytes_eq}
 use Rattle.std.proofs.lemmas.Bool.{cases_Bool, eqb-true, eqb-false, false≢true, eq-eqb}
@@ -8,12 +8,11 @@ use Rattle.std.specs.Option.{SomeIff, IsSome}
 use Rattle.rec_text.specs.Elements.{Piece, text_of}
 use Rattle.rec_journal.specs.declared.patch.Hunk.{Hunk}
 use Rattle.rec_journal.specs.Patch.{AreApartFrom, IsPatch, SplicesFrom, Splices}
-use Rattle.rec_edit.specs.Script.{Part, Layout, lacks_newline, settled, closed, old_pieces, edited_text, new_pieces, is_kept, changes_from, TakesWhole}
-use Rattle.rec_edit.specs.proving.Parts.{putting, changing, parts_from, script_of}
+use Rattle.rec_edit.specs.Script.{Part, lacks_newline, settled, old_pieces, edited_text, new_pieces, is_kept, changes_from, TakesWhole}
 use Rattle.rec_edit.specs.proving.Changes.{joining, merged, real_changes, hunks_of}
-use Rattle.rec_edit.specs.declared.script.draft.Draft.{Draft}
-use Rattle.rec_edit.specs.declared.script.draft.Run.{Run}
-use Rattle.rec_edit.specs.proving.Drafts.{hunk_of, opening, EndsBy, IsDraft, IsRunHere}
+use Rattle.rec_edit.specs.declared.draft.Draft.{Draft}
+use Rattle.rec_edit.specs.declared.draft.Run.{Run}
+use Rattle.rec_edit.specs.proving.Drafts.{hunk_of, opening, EndsBy, IsDraft, IsRunHere, AreKept}
 use Rattle.rec_text.proofs.lemmas.elements.ElementLemmas.{text_of-append}
 use Rattle.rec_text.proofs.lemmas.ListLemmas.{same_bytes, bytes_eq-self}
 
@@ -28,25 +27,6 @@ old_pieces-settled (part ∷ []) = elim (cases_Bool (lacks_newline (text_of part
   | inr ends ↦ rw ends refl
 ]
 old_pieces-settled (part ∷ next ∷ parts) = ap (λ p. part.old ++ p) (old_pieces-settled (next ∷ parts))
-
-pub old_pieces-putting : (new : List Piece) (parts : List Part) → old_pieces (putting new parts) ≡ old_pieces parts
-old_pieces-putting [] parts = refl
-old_pieces-putting (piece ∷ new) parts = refl
-
-pub old_pieces-changing : (tied : Bool) (piece : Piece) (new : List Piece) (parts : List Part) → old_pieces (changing tied piece new parts) ≡ piece ∷ old_pieces parts
-old_pieces-changing tied piece new [] = refl
-old_pieces-changing true piece new (next ∷ parts) = refl
-old_pieces-changing false piece new (next ∷ parts) = refl
-
-pub old_pieces-parts_from : (i : ℕ) (layout : Layout) (pieces : List Piece) → old_pieces (parts_from i layout pieces) ≡ pieces
-old_pieces-parts_from i layout [] = old_pieces-putting (layout.put i) []
-old_pieces-parts_from i layout (piece ∷ pieces) =
-    old_pieces-putting (layout.put i) (changing (layout.tied i) piece (layout.becomes i (closed piece)) (parts_from (i + 1) layout pieces))
-    ∙ old_pieces-changing (layout.tied i) piece (layout.becomes i (closed piece)) (parts_from (i + 1) layout pieces)
-    ∙ ap (λ p. piece ∷ p) (old_pieces-parts_from (i + 1) layout pieces)
-
-pub old_pieces-script_of : (layout : Layout) (pieces : List Piece) → old_pieces (script_of layout pieces) ≡ pieces
-old_pieces-script_of layout pieces = old_pieces-settled (parts_from 0 layout pieces) ∙ old_pieces-parts_from 0 layout pieces
 
 -- ---- hunks that take whole elements out, in order
 
@@ -264,66 +244,7 @@ joining-joining hunk next (third ∷ hunks) touch =
       | inr apart ↦ rw (apart, test, same, apart) refl
     ]
 
-pub joining-apart : (hunk next : Hunk) (hunks : List Hunk) → (hunk.at + length hunk.old == next.at) ≡ false → joining hunk (joining next hunks) ≡ hunk ∷ joining next hunks
-joining-apart hunk next [] apart = rw apart refl
-joining-apart hunk next (third ∷ hunks) apart = elim (cases_Bool (next.at + length next.old == third.at)) [
-  | inl touches ↦ rw (touches, apart) refl
-  | inr separate ↦ rw (separate, apart) refl
-]
-
-pub real_changes-cons : (hunk : Hunk) (hunks : List Hunk) → real_changes (hunk ∷ hunks) ≡ real_changes (hunk ∷ []) ++ real_changes hunks
-real_changes-cons hunk hunks = elim (cases_Bool (bytes_eq hunk.old hunk.new)) [
-  | inl same ↦ rw same refl
-  | inr changes ↦ rw changes refl
-]
-
--- an empty hunk, before one at its place
-pub joining-empty : (hunk next : Hunk) (hunks : List Hunk) → hunk.at ≡ next.at → hunk.old ≡ [] → hunk.new ≡ [] → joining hunk (joining next hunks) ≡ joining next hunks
-joining-empty hunk next hunks at old new =
-    let made : ℕ → List ℕ → List ℕ → Hunk = λ a o n. record { at = a; old = o ++ next.old; new = n ++ next.new } in
-    let same : both hunk next ≡ next = ap (λ a. made a hunk.old hunk.new) at ∙ ap (λ o. made next.at o hunk.new) old ∙ ap (made next.at []) new in
-    joining-joining hunk next hunks (omega (arith, ap length old)) ∙ ap (λ h. joining h hunks) same
-
 -- ---- the run that a change goes on with
-
--- the open run, which ends here
-pub open_run_here : (draft new : Draft) (run : Run) → draft.run ≡ Some run → run.at + length run.old.items ≡ draft.at
-    → new.hunks.items ≡ draft.hunks.items → new.text.items ≡ draft.text.items → new.at ≡ draft.at → IsRunHere draft run new
-open_run_here draft new run is_open ends hunks text at = record {
-  hunks = λ next more next_at.
-      ap (λ r. draft.hunks.items ++ real_changes (opening r (joining next more))) is_open ∙ ap (λ h. h ++ real_changes (joining (hunk_of run) (joining next more))) (sym hunks);
-  ends = ends;
-  text = text;
-  at = at;
-}
-
--- an empty run, where the open one ends elsewhere
-pub new_run_here : (draft new : Draft) (last run : Run) → draft.run ≡ Some last → (last.at + length last.old.items == draft.at) ≡ false
-    → run.at ≡ draft.at → run.old.items ≡ [] → run.new.items ≡ []
-    → new.hunks.items ≡ draft.hunks.items ++ real_changes (hunk_of last ∷ []) → new.text.items ≡ draft.text.items → new.at ≡ draft.at → IsRunHere draft run new
-new_run_here draft new last run is_open ends at_is old_is new_is hunks text at = record {
-  hunks = λ next more next_at.
-      let following = joining next more in
-      let apart : (last.at + length last.old.items == next.at) ≡ false = ap (λ n. last.at + length last.old.items == n) next_at ∙ ends in
-      ap (λ r. draft.hunks.items ++ real_changes (opening r following)) is_open ∙ ap (λ h. draft.hunks.items ++ real_changes h) (joining-apart (hunk_of last) next more apart)
-      ∙ ap (λ h. draft.hunks.items ++ h) (real_changes-cons (hunk_of last) following) ∙ sym (append_assoc draft.hunks.items (real_changes (hunk_of last ∷ [])) (real_changes following))
-      ∙ ap (λ h. h ++ real_changes following) (sym hunks) ∙ ap (λ h. new.hunks.items ++ real_changes h) (sym (joining-empty (hunk_of run) next more (at_is ∙ sym next_at) old_is new_is));
-  ends = omega (arith, ap length old_is);
-  text = text;
-  at = at;
-}
-
--- an empty run, where none is open
-pub first_run_here : (draft new : Draft) (run : Run) → draft.run ≡ None → run.at ≡ draft.at → run.old.items ≡ [] → run.new.items ≡ []
-    → new.hunks.items ≡ draft.hunks.items → new.text.items ≡ draft.text.items → new.at ≡ draft.at → IsRunHere draft run new
-first_run_here draft new run none at_is old_is new_is hunks text at = record {
-  hunks = λ next more next_at.
-      ap (λ r. draft.hunks.items ++ real_changes (opening r (joining next more))) none ∙ ap (λ h. h ++ real_changes (joining next more)) (sym hunks)
-      ∙ ap (λ h. new.hunks.items ++ real_changes h) (sym (joining-empty (hunk_of run) next more (at_is ∙ sym next_at) old_is new_is));
-  ends = omega (arith, ap length old_is);
-  text = text;
-  at = at;
-}
 
 -- ---- one part
 
@@ -344,21 +265,6 @@ module _ (draft new : Draft) (old_bytes new_bytes : List ℕ) (part : Part) (res
 
   place_after : draft.at + length (text_of part.old) ≡ new.at
   place_after = omega (arith, ap length old_is)
-
-  -- one that is kept
-  pub draft_kept : new.hunks.items ≡ draft.hunks.items → new.run ≡ draft.run → old_bytes ≡ new_bytes → IsDraft new rest whole
-  draft_kept hunks run same =
-      let kept : is_kept part ≡ true = ap (λ t. bytes_eq t (text_of part.new)) (sym old_is ∙ same ∙ new_is) ∙ bytes_eq-self (text_of part.new) in
-      let left : changes_from draft.at (part ∷ rest) ≡ changes_from new.at rest = rw kept (ap (λ n. changes_from n rest) place_after) in
-      let ends : EndsBy draft.run new.at = EndsBy-later draft.run draft.at new.at (omega arith) is.run_ends in
-      record {
-        hunks = is.hunks ∙ ap (λ h. draft.hunks.items ++ real_changes (opening draft.run (merged h))) left
-            ∙ ap (λ h. h ++ real_changes (opening draft.run (merged (changes_from new.at rest)))) (sym hunks)
-            ∙ ap (λ r. new.hunks.items ++ real_changes (opening r (merged (changes_from new.at rest)))) (sym run);
-        text = text_after_label;
-        at = at_after;
-        run_ends = subst (λ (r : Option Run). EndsBy r new.at) (sym run) ends;
-      }
 
   -- one that is changed, where the run that reaches it goes on
   pub draft_changed : (mid : Draft) (run last : Run) → IsRunHere draft run mid → bytes_eq old_bytes new_bytes ≡ false → new.hunks.items ≡ mid.hunks.items → new.run ≡ Some last
@@ -384,6 +290,58 @@ module _ (draft new : Draft) (old_bytes new_bytes : List ℕ) (part : Part) (res
         at = at_after;
         run_ends = subst (λ (r : Option Run). EndsBy r new.at) (sym open_is) ends;
       }
+
+-- ---- parts that are kept
+
+text_of-kept : (parts : List Part) → AreKept parts → text_of (old_pieces parts) ≡ edited_text parts
+text_of-kept [] kept = refl
+text_of-kept (part ∷ parts) kept =
+    text_of-append part.old (old_pieces parts) ∙ ap (λ t. t ++ text_of (old_pieces parts)) (same_bytes _ _ kept.0)
+    ∙ ap (λ t. text_of part.new ++ t) (text_of-kept parts kept.1) ∙ sym (text_of-append part.new (new_pieces parts))
+
+changes_from-kept : (at : ℕ) (parts rest : List Part) → AreKept parts → changes_from at (parts ++ rest) ≡ changes_from (at + length (text_of (old_pieces parts))) rest
+changes_from-kept at [] rest kept = ap (λ n. changes_from n rest) (let e : at ≡ at + 0 = omega arith in e)
+changes_from-kept at (part ∷ parts) rest kept =
+    let more = changes_from-kept (at + length (text_of part.old)) parts rest kept.1 in
+    let place : at + length (text_of part.old) + length (text_of (old_pieces parts)) ≡ at + length (text_of (old_pieces (part ∷ parts))) =
+    omega (arith, ap length (text_of-append part.old (old_pieces parts)), length-append (text_of part.old) (text_of (old_pieces parts))) in
+    let is = kept.0 in
+    rw is (more ∙ ap (λ n. changes_from n rest) place)
+
+pub old_pieces-append : (parts rest : List Part) → old_pieces (parts ++ rest) ≡ old_pieces parts ++ old_pieces rest
+old_pieces-append [] rest = refl
+old_pieces-append (part ∷ parts) rest = ap (λ l. part.old ++ l) (old_pieces-append parts rest) ∙ sym (append_assoc part.old (old_pieces parts) (old_pieces rest))
+
+pub new_pieces-append : (parts rest : List Part) → new_pieces (parts ++ rest) ≡ new_pieces parts ++ new_pieces rest
+new_pieces-append [] rest = refl
+new_pieces-append (part ∷ parts) rest = ap (λ l. part.new ++ l) (new_pieces-append parts rest) ∙ sym (append_assoc part.new (new_pieces parts) (new_pieces rest))
+
+pub draft_kept : (draft new : Draft) (bytes : List ℕ) (parts rest whole : List Part) → AreKept parts → bytes ≡ text_of (old_pieces parts)
+    → new.text.items ≡ draft.text.items ++ bytes → new.at ≡ draft.at + length bytes → new.hunks.items ≡ draft.hunks.items → new.run ≡ draft.run
+    → IsDraft draft (parts ++ rest) whole → IsDraft new rest whole
+draft_kept draft new bytes parts rest whole kept bytes_are text at hunks run is =
+    let place : draft.at + length (text_of (old_pieces parts)) ≡ new.at = omega (arith, ap length bytes_are) in
+    let left : changes_from draft.at (parts ++ rest) ≡ changes_from new.at rest = changes_from-kept draft.at parts rest kept ∙ ap (λ n. changes_from n rest) place in
+    let ends : EndsBy draft.run new.at = EndsBy-later draft.run draft.at new.at (omega arith) is.run_ends in
+    record {
+      hunks = is.hunks ∙ ap (λ h. draft.hunks.items ++ real_changes (opening draft.run (merged h))) left
+          ∙ ap (λ h. h ++ real_changes (opening draft.run (merged (changes_from new.at rest)))) (sym hunks)
+          ∙ ap (λ r. new.hunks.items ++ real_changes (opening r (merged (changes_from new.at rest)))) (sym run);
+      text = is.text ∙ ap (λ l. draft.text.items ++ text_of l) (new_pieces-append parts rest)
+          ∙ ap (λ t. draft.text.items ++ t) (text_of-append (new_pieces parts) (new_pieces rest))
+          ∙ sym (append_assoc draft.text.items (edited_text parts) (edited_text rest))
+          ∙ ap (λ t. (draft.text.items ++ t) ++ edited_text rest) (sym (text_of-kept parts kept) ∙ sym bytes_are)
+          ∙ ap (λ t. t ++ edited_text rest) (sym text);
+      at = omega (
+        arith,
+        is.at,
+        ap (λ l. length (text_of l)) (old_pieces-append parts rest),
+        ap length (text_of-append (old_pieces parts) (old_pieces rest)),
+        length-append (text_of (old_pieces parts)) (text_of (old_pieces rest)),
+        ap length bytes_are,
+      );
+      run_ends = subst (λ (r : Option Run). EndsBy r new.at) (sym run) ends;
+    }
 
 -- ---- the end
 

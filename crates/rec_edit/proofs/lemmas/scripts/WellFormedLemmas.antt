@@ -1,8 +1,8 @@
 -- Well-formed elements: with a newline added or without it, commented, written anew and renamed; and the new elements of a script.
-use Rattle.std.proofs.Common.{◌≡◌, ◌∙◌, ℕ, suc, ◌+◌, ◌<◌, ◌≤◌, Bool, true, false, cond, not, ◌&&◌, ◌||◌, ◌==◌, List, [], ◌∷◌, ◌++◌, length, map, take, drop, Some, refl, sym, ap, append_assoc, arith}
-use Rattle.std.proofs.Common.{subst, append-nil}
+use Rattle.std.proofs.Common.{◌≡◌, ◌∙◌, ℕ, suc, ◌+◌, ◌<◌, ◌≤◌, Bool, true, false, cond, not, ◌&&◌, ◌||◌, ◌==◌, List, [], ◌∷◌, ◌++◌, length, map, take, drop, Some, refl, sym, ap}
+use Rattle.std.proofs.Common.{append_assoc, arith, subst, append-nil}
 use Rattle.std.specs.Option.{option_map, option_map_or}
-use Rattle.std.specs.List.{AllByRecursion, list_all, slice_get}
+use Rattle.std.specs.List.{AllByRecursion, list_all}
 use Rattle.std.proofs.lemmas.Bool.{cond_both, cond-false, and_parts, and_from, and_left, and_right, or_left, or_right, or_from, or_parts, not-true, not_from_false, eqb-true, false≢true}
 use Rattle.std.proofs.lemmas.Bool.{false_from_ne_true}
 use Rattle.std.proofs.lemmas.List.{take-append-drop, take-append-le, drop-append-le, drop_more, drop_at, length-map, length-drop}
@@ -10,16 +10,14 @@ use Rattle.rec_text.specs.declared.element.Kind.{Kind}
 use Rattle.rec_text.specs.declared.element.Kind.TheVariants.{Blank, Comment, Field}
 use Rattle.rec_text.specs.Bytes.{is_blank, is_letter, is_nil, continues_name, ends_newline}
 use Rattle.rec_text.specs.Canonical.{is_plain_name, is_foldable, folded, field_of}
-use Rattle.rec_text.specs.Elements.{Piece, IsElement, is_element, is_line, is_blank_line, is_comment, is_field, is_body, is_joined, is_dangling, colon_of, name_of, EndInNewlines, AreElementsOf}
-use Rattle.rec_text.specs.Elements.{text_of}
+use Rattle.rec_text.specs.Elements.{Piece, IsElement, is_element, is_line, is_blank_line, is_comment, is_field, is_body, is_joined, is_dangling, colon_of, name_of, EndInNewlines}
 use Rattle.rec_text.specs.Values.{on_first}
-use Rattle.rec_edit.specs.Script.{closed, without_newline, lacks_newline, Part, Layout, opened, settled, new_pieces, edited_text}
-use Rattle.rec_edit.specs.proving.Parts.{putting, changing, parts_from, script_of}
+use Rattle.rec_edit.specs.Script.{closed, without_newline, opened}
 use Rattle.rec_edit.specs.Rules.{canonical, physical_lines, comments_of, renamed}
 use Rattle.rec_text.proofs.lemmas.ListLemmas.{is_nil-push}
 use Rattle.rec_text.proofs.lemmas.values.FoldLemmas.{is_foldable-same}
 use Rattle.rec_text.proofs.lemmas.elements.FieldLemmas.{is_named-at, colon_of-append, colon_of-byte, ends_newline-cons, ends_newline-append}
-use Rattle.rec_text.proofs.lemmas.reading.CutLemmas.{IsNamed, IsNamed-true, element_is_some}
+use Rattle.rec_text.proofs.lemmas.reading.CutLemmas.{IsNamed, IsNamed-true}
 use Rattle.rec_text.proofs.lemmas.values.CanonicalLemmas.{name_end-all, after_colon, is_field-field_of}
 
 -- ---- well-formed elements: with a newline added, without their newline, commented, written anew and renamed
@@ -132,9 +130,6 @@ IsClosed-closed piece whole =
     (λ ends. record { element = whole; ends = ends })
     (λ lacks. record { element = is_element-closed piece.kind piece.bytes whole lacks; ends = ends_newline-at piece.bytes 10 [] })
 
-pub lacks_newline-ends : (text : List ℕ) → lacks_newline text ≡ true → ends_newline text ≡ false
-lacks_newline-ends text lacks = not-true (ends_newline text) (and_parts (not (is_nil text)) (not (ends_newline text)) lacks).1
-
 pub closed-lacks : (piece : Piece) → ends_newline piece.bytes ≡ false → closed piece ≡ record { kind = piece.kind; bytes = piece.bytes ++ 10 ∷ [] }
 closed-lacks piece lacks = ap (with_bytes piece) (cond-false (ends_newline piece.bytes) piece.bytes (piece.bytes ++ 10 ∷ []) lacks)
 
@@ -207,9 +202,8 @@ length-physical_lines : (bs : List ℕ) → 0 < length bs → 0 < length (physic
 length-physical_lines [] some = absurd (omega (arith, some))
 length-physical_lines (b ∷ bs) some = physical_lines-some b bs
 
-pub length-commented : (piece : Piece) → IsElement piece → 1 ≤ length (comments_of piece.bytes)
-length-commented piece whole =
-    omega (arith, length-map (physical_lines piece.bytes) comment_of, length-physical_lines piece.bytes (element_is_some piece.kind piece.bytes whole))
+pub length-comments : (bytes : List ℕ) → 0 < length bytes → 1 ≤ length (comments_of bytes)
+length-comments bytes some = omega (arith, length-map (physical_lines bytes) comment_of, length-physical_lines bytes some)
 
 -- ---- a field with a plain name
 
@@ -377,85 +371,3 @@ AreWhole-opened (piece ∷ next ∷ pieces) closed bares = AreWhole-cons piece (
 pub record CanStandFor (piece : Piece) (new : List Piece) : Type 0 where
   pub lines : AllByRecursion IsClosed new
   pub bares : ends_newline piece.bytes ≡ false → AllByRecursion IsBare new
-
--- each element is a part of its own, and all that is laid is well formed
-pub record LaysWell (i : ℕ) (layout : Layout) (pieces : List Piece) : Type 0 where
-  pub untied : (k : ℕ) → layout.tied k ≡ false
-  pub put : (k : ℕ) → AllByRecursion IsClosed (layout.put k)
-  pub becomes : (k : ℕ) (piece : Piece) → slice_get pieces k ≡ Some piece → CanStandFor piece (layout.becomes (i + k) (closed piece))
-
-LaysWell-first : (i : ℕ) (layout : Layout) (piece : Piece) (pieces : List Piece) → LaysWell i layout (piece ∷ pieces) → CanStandFor piece (layout.becomes i (closed piece))
-LaysWell-first i layout piece pieces lays = subst (λ k. CanStandFor piece (layout.becomes k (closed piece))) (let e : i + 0 ≡ i = omega arith in e) (lays.becomes 0 piece refl)
-
-LaysWell-rest : (i : ℕ) (layout : Layout) (piece : Piece) (pieces : List Piece) → LaysWell i layout (piece ∷ pieces) → LaysWell (i + 1) layout pieces
-LaysWell-rest i layout piece pieces lays = record {
-  untied = lays.untied;
-  put = lays.put;
-  becomes = λ k p at. subst (λ n. CanStandFor p (layout.becomes n (closed p))) (let e : i + suc k ≡ (i + 1) + k = omega arith in e) (lays.becomes (suc k) p at);
-}
-
--- ---- the parts of a script
-
--- a part for one element
-abbrev one_part : Piece → List Piece → Part
-one_part piece new = record { old = piece ∷ []; new = new }
-
-pub changing-untied : (tied : Bool) (piece : Piece) (new : List Piece) (parts : List Part) → tied ≡ false → changing tied piece new parts ≡ record { old = piece ∷ []; new = new } ∷ parts
-changing-untied tied piece new [] untied = refl
-changing-untied tied piece new (next ∷ parts) untied = rw untied refl
-
-pub parts_from-cons : (i : ℕ) (layout : Layout) (piece : Piece) (pieces : List Piece) → layout.tied i ≡ false
-    → parts_from i layout (piece ∷ pieces) ≡ putting (layout.put i) (record { old = piece ∷ []; new = layout.becomes i (closed piece) } ∷ parts_from (i + 1) layout pieces)
-parts_from-cons i layout piece pieces untied =
-    ap (putting (layout.put i)) (changing-untied (layout.tied i) piece (layout.becomes i (closed piece)) (parts_from (i + 1) layout pieces) untied)
-
-lacks-none : (new : List Piece) → settled (record { old = []; new = new } ∷ []) ≡ record { old = []; new = new } ∷ []
-lacks-none new = refl
-
--- what is put in keeps its newlines
-settled-putting : (put : List Piece) (parts : List Part) → settled (putting put parts) ≡ putting put (settled parts)
-settled-putting [] parts = refl
-settled-putting (piece ∷ pieces) [] = lacks-none (piece ∷ pieces)
-settled-putting (piece ∷ pieces) (part ∷ parts) = refl
-
-new_pieces-putting : (put : List Piece) (parts : List Part) → new_pieces (putting put parts) ≡ put ++ new_pieces parts
-new_pieces-putting [] parts = refl
-new_pieces-putting (piece ∷ pieces) parts = refl
-
-AreWhole-last : (piece : Piece) (new : List Piece) → AllByRecursion IsClosed new → (ends_newline piece.bytes ≡ false → AllByRecursion IsBare new)
-    → AreWhole (new_pieces (settled (one_part piece new ∷ [])))
-AreWhole-last piece new closed bares =
-    let text = text_of (piece ∷ []) in
-    let bytes : text ≡ piece.bytes = append-nil piece.bytes in
-    let whole = one_part piece new in
-    let open_part : Part = record { old = piece ∷ []; new = opened new } in
-    cond_both (lacks_newline text) open_part whole (λ part. AreWhole (part.new ++ []))
-    (λ lacks.
-    let lacking = sym (ap ends_newline bytes) ∙ lacks_newline-ends text lacks in
-    subst AreWhole (sym (append-nil (opened new))) (AreWhole-opened new closed (bares lacking)))
-    (λ _. subst AreWhole (sym (append-nil new)) (AreWhole-closed new closed))
-
-AreWhole-parts : (piece : Piece) (new : List Piece) (parts : List Part) → AllByRecursion IsClosed new → (ends_newline piece.bytes ≡ false → AllByRecursion IsBare new)
-    → AreWhole (new_pieces (settled parts)) → AreWhole (new_pieces (settled (one_part piece new ∷ parts)))
-AreWhole-parts piece new [] closed bares are = AreWhole-last piece new closed bares
-AreWhole-parts piece new (next ∷ parts) closed bares are = AreWhole-append new (new_pieces (settled (next ∷ parts))) closed are
-
-AreWhole-put : (put : List Piece) (parts : List Part) → AllByRecursion IsClosed put → AreWhole (new_pieces (settled parts)) → AreWhole (new_pieces (settled (putting put parts)))
-AreWhole-put put parts closed are =
-    subst AreWhole (sym (ap new_pieces (settled-putting put parts) ∙ new_pieces-putting put (settled parts))) (AreWhole-append put (new_pieces (settled parts)) closed are)
-
-parts_are_whole : (i : ℕ) (layout : Layout) (pieces : List Piece) → LaysWell i layout pieces → AreWhole (new_pieces (settled (parts_from i layout pieces)))
-parts_are_whole i layout [] lays = AreWhole-put (layout.put i) [] (lays.put i) AreWhole-nil
-parts_are_whole i layout (piece ∷ pieces) lays =
-    let more = parts_are_whole (i + 1) layout pieces (LaysWell-rest i layout piece pieces lays) in
-    let first = LaysWell-first i layout piece pieces lays in
-    let new = layout.becomes i (closed piece) in
-    let rest = parts_from (i + 1) layout pieces in
-    subst (λ parts. AreWhole (new_pieces (settled parts))) (sym (parts_from-cons i layout piece pieces (lays.untied i)))
-    (AreWhole-put (layout.put i) (one_part piece new ∷ rest) (lays.put i) (AreWhole-parts piece new rest first.lines first.bares more))
-
--- the new elements of a layout that lays well-formed ones are those of the edited text
-pub new_pieces_are_read : (layout : Layout) (pieces : List Piece) → LaysWell 0 layout pieces → AreElementsOf (new_pieces (script_of layout pieces)) (edited_text (script_of layout pieces))
-new_pieces_are_read layout pieces lays =
-    let are = parts_are_whole 0 layout pieces lays in
-    record { joined = refl; well_formed = are.well_formed; lines_end = are.lines_end }

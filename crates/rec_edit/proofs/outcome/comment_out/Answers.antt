@@ -1,20 +1,26 @@
 use Rattle.rec_check.specs.Stored.{described}
+use Rattle.rec_edit.specs.Outcome.{AreRemovable, IsMade}
+use Rattle.rec_text.specs.Bytes.{closed_text}
+use Rattle.rec_text.specs.Elements.{text_of}
+use Rattle.rec_edit.specs.Rules.{commented, comments_of}
 use Rattle.rec_edit.specs.Task.{wanted_by}
 use Rattle.rec_text.proofs.lemmas.ErrorLemmas.{kept_error}
-use Rattle.rec_edit.proofs.lemmas.outcomes.EditLemmas.{comment_out-refused, comment_out-made}
-use Rattle.rec_edit.proofs.lemmas.scripts.LaidLemmas.{LaysLines-removing}
+use Rattle.rec_edit.proofs.lemmas.blocks.ReplacementLemmas.{TakesAll-replaced}
+use Rattle.rec_edit.proofs.lemmas.outcomes.EditLemmas.{carried_on, made-carried_out, refused_first}
 use Rattle.rec_edit.proofs.outcome.comment_out.Goals as goal
 
-pub returns-in_err-chosen : goal.returns-in_err-chosen
-returns-in_err-chosen c =
+pub returns-in_err-selected : goal.returns-in_err-selected
+returns-in_err-selected c =
     rw (kept_error c.from_residual.ensures.1)
-    (comment_out-refused c.args.file.now.pieces (described c.args.file.now.schema) c.args.force (wanted_by c.args.selection.now) c.in_err-chosen.field-0.0 c.in_err-chosen.ensures.refused)
+    (refused_first (AreRemovable c.args.file.now.pieces (described c.args.file.now.schema).sets (wanted_by c.args.selection.now) c.args.force) (IsMade c.args.file.now.pieces commented)
+    c.in_err-selected.field-0.0 c.in_err-selected.ensures.refused)
+
+pub carried_out-requires : goal.carried_out-requires
+carried_out-requires c = TakesAll-replaced (λ k block. comments_of (closed_text (text_of block.own)))
 
 pub returns : goal.returns
 returns c =
-    comment_out-made c.args.file.now.pieces (described c.args.file.now.schema) c.args.force
-    (wanted_by c.args.selection.now) c.in_ok-chosen.chosen.items c.deref-2.result.now c.deref.result.now _ _ c.in_ok-carried_out.field-0
-    c.in_ok-chosen.ensures.found c.deref.ensures.value c.in_ok-layout.ensures.ranges c.in_ok-layout.ensures.comments c.deref-2.ensures.value c.in_ok-carried_out.ensures
-
-pub carried_out-requires-clause-lines : goal.carried_out-requires-clause-lines
-carried_out-requires-clause-lines c = LaysLines-removing _ _
+    let pieces = c.args.file.now.pieces in
+    let selected = c.in_ok-selected.selected.items in
+    carried_on (AreRemovable pieces (described c.args.file.now.schema).sets (wanted_by c.args.selection.now) c.args.force) (IsMade pieces commented) selected _ c.in_ok-selected.ensures.found
+    (made-carried_out pieces commented selected c.deref.result.now c.in_ok-carried_out.field-0 c.deref.ensures.value c.in_ok-carried_out.ensures)

@@ -1,4 +1,4 @@
-use Rattle.std.proofs.Common.{◌∙◌, ◌==◌, Ok, ap, inr, refl, subst, sym}
+use Rattle.std.proofs.Common.{◌∙◌, ◌==◌, Ok, ap, inr, refl, subst}
 use Rattle.rec_text.specs.Elements.{AreElementsOf, text_of}
 use Rattle.rec_check.specs.Stored.{described}
 use Rattle.rec_check.specs.Violations.{AreViolations, AreViolationsOf}

@@ -1,7 +1,6 @@
 use Rattle.std.proofs.Common.{◌≡◌, ◌∙◌, ◌++◌, ℕ, false, List, map, Ok, Err, ap, sym, inr}
 use Rattle.std.specs.List.{list_all}
 use Rattle.rec_text.specs.Canonical.{is_plain_name}
-use Rattle.rec_text.proofs.lemmas.ErrorLemmas.{kept_error}
 use Rattle.rec_text.proofs.lemmas.FaultLemmas.{from_fact}
 use Rattle.rec_sex.specs.declared.lists.field_list.Item.{Item}
 use Rattle.rec_edit.specs.Wording.{unnumbered, written_items, names_of_action, values_of_action, AreItemsFor}

@@ -1,11 +1,11 @@
-use Rattle.std.proofs.Common.{◌∙◌, ℕ, get_or, ap, sym}
+use Rattle.std.proofs.Common.{◌∙◌, ℕ, List, get_or, ap, sym}
 use Rattle.std.proofs.lemmas.List.{get_or_default, map_push}
 use Rattle.std.specs.declared.ops.Range.{Range}
 use Rattle.rec_text.specs.Places.{pieces_of}
 use Rattle.rec_check.specs.Violations.{names_of}
 use Rattle.rec_edit.specs.declared.automatic.filled.FilledRecord.{FilledRecord}
 use Rattle.rec_edit.specs.proving.Filling.{numbered, filled_of}
-use Rattle.rec_edit.specs.Insertions.{Filled}
+use Rattle.rec_edit.specs.Insertions.{Numbered}
 use Rattle.rec_text.proofs.lemmas.ErrorLemmas.{kept_error}
 use Rattle.rec_text.proofs.lemmas.FaultLemmas.{memory_or_weaker}
 use Rattle.rec_edit.proofs.lemmas.automatic.FillLemmas.{none_filled, one_filled, one_refused, all_filled}
@@ -37,13 +37,13 @@ loop-record-preserved c = λ rules numbers are.
     let none : Range ℕ = record { start = 0; end = 0 } in
     let one : Range ℕ = get_or records i none in
     let so_far = c.loop-record.invariant rules numbers are in
-    let typed : FilledRecord → Filled = λ o. record { range = o.range; given = numbered o.given.items } in
+    let kept : FilledRecord → List Numbered = λ o. numbered o.given.items in
     one_filled pieces rules numbers records (filled_of c.args.filled.now.items) i (filled_of c.loop-record.filled.items) c.loop-record.counters one
     (names_of (pieces_of c.elements_in-fields.result.now)) c.loop-record-test.true
     (sym (get_or_default records i none one c.loop-record-test.true)) (ap names_of c.elements_in-fields.ensures.pieces) so_far (numbered c.in_ok-given.given.items) c.fill_record.new.counters
     (filled_of c.push.new.self.items)
     (c.in_ok-given.ensures.given rules so_far.now so_far.counters_are)
-    (ap filled_of c.in_ok-push.ensures.items ∙ map_push typed c.loop-record.filled.items (record { range = one; given = c.in_ok-given.given }))
+    (ap filled_of c.in_ok-push.ensures.items ∙ map_push kept c.loop-record.filled.items (record { given = c.in_ok-given.given }))
 
 pub returns-clause-filled : goal.returns-clause-filled
 returns-clause-filled c = λ rules numbers are.

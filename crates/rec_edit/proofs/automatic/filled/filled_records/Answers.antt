@@ -9,7 +9,7 @@ use Rattle.rec_check.specs.Stored.{described}
 use Rattle.rec_edit.specs.proving.Filling.{filled_of}
 use Rattle.rec_text.proofs.lemmas.ErrorLemmas.{kept_error}
 use Rattle.rec_text.proofs.lemmas.FaultLemmas.{memory_or_weaker}
-use Rattle.rec_edit.proofs.lemmas.automatic.FillLemmas.{one_set_filled, set_refused, all_sets_filled, AreRanges-filled}
+use Rattle.rec_edit.proofs.lemmas.automatic.FillLemmas.{one_set_filled, set_refused, all_sets_filled}
 use Rattle.rec_edit.proofs.automatic.filled.filled_records.Goals as goal
 use Rattle.rec_edit.proofs.automatic.filled.filled_records.Goals.{After-sets-place-end}
 
@@ -78,12 +78,3 @@ returns-clause-filled c =
       all_sets_filled c.args.file.now.pieces records (sets at) (rules at) c.loop-place.place (filled_of c.loop-place.filled.items) past (omega (arith, long at))
           (c.loop-place.invariant records are),
     )
-
-pub returns-clause-ranges : goal.returns-clause-ranges
-returns-clause-ranges c =
-    let at = (goal.at.returns-clause-ranges c).After-sets-place-end in
-    let is = c.schema.ensures.together in
-    let past : length (sets at) ≤ c.loop-place.place = omega (arith, count at, c.loop-place-test.false) in
-    AreRanges-filled c.args.file.now.pieces (described c.args.file.now.schema) is (filled_of c.loop-place.filled.items)
-    (all_sets_filled c.args.file.now.pieces is.records (sets at) (rules at) c.loop-place.place (filled_of c.loop-place.filled.items) past (omega (arith, long at))
-    (c.loop-place.invariant is.records is.are))

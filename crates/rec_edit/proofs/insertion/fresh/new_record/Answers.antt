@@ -2,7 +2,6 @@ use Rattle.std.proofs.Common.{◌≡◌, ◌∙◌, ◌++◌, ℕ, false, List, 
 use Rattle.std.specs.Prelude.{option_to_list}
 use Rattle.std.specs.List.{list_all}
 use Rattle.rec_text.specs.Canonical.{is_plain_name, is_foldable}
-use Rattle.rec_text.proofs.lemmas.ErrorLemmas.{kept_error}
 use Rattle.rec_text.proofs.lemmas.FaultLemmas.{from_fact}
 use Rattle.rec_edit.specs.Task.{Pair, fresh_by}
 use Rattle.rec_edit.specs.Wording.{names_in, written_pairs, IsNewRecord}

@@ -5,7 +5,7 @@ use Rattle.std.proofs.lemmas.Iterator.Search.{YieldsList-from_take_while}
 use Rattle.std.proofs.lemmas.List.Folds.{length-prefix_len}
 use Rattle.rec_text.specs.Places.{piece_of}
 use Rattle.rec_edit.specs.Insertions.{is_full}
-use Rattle.rec_edit.proofs.lemmas.layouts.TakingOutLemmas.{prefix_len-pieces}
+use Rattle.rec_edit.proofs.lemmas.blocks.DeletionLemmas.{prefix_len-pieces}
 use Rattle.rec_edit.proofs.insertion.site.full_count.Goals as goal
 
 pub returns : goal.returns

@@ -1,5 +1,0 @@
-use Rattle.std.proofs.Common.{◌≡◌, filter_map, slice_get, take}
-use Rattle.rec_edit.proofs.chosen.ranges_at.Given as goal
-
-abbrev pub invariant-loop-index : goal.invariant-loop-index
-invariant-loop-index l = l.found.items ≡ filter_map (slice_get l.ranges) (take l.index-index l.indexes)

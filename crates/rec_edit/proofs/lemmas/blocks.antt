@@ -1,0 +1,10 @@
+pub mod BlockLemmas
+pub mod LayingLemmas
+pub mod DeletionLemmas
+pub mod SettingLemmas
+pub mod ReplacementLemmas
+pub mod TurnLemmas
+pub mod KindLemmas
+pub mod QuietLemmas
+pub mod FaithfulLemmas
+pub mod InsertionLemmas

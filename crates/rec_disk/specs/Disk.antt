@@ -153,13 +153,6 @@ abbrev pub Told : Option Story → (State → Type 0) → Type 0
 Told None P = Unit {0}
 Told (Some a) P = P a.now
 
--- where a disk tells its story, the first state stands so to the last one
-abbrev pub Ends : Option Story → Option Story → (State → State → Type 0) → Type 0
-Ends None None R = Unit {0}
-Ends None (Some b) R = ⊥
-Ends (Some a) None R = ⊥
-Ends (Some a) (Some b) R = R a.now b.now
-
 -- where a disk tells its story, the first state stands so to the last one and to each in between
 abbrev pub AtAnyMoment : Option Story → Option Story → (State → State → Type 0) → Type 0
 AtAnyMoment None None R = Unit {0}

@@ -5,6 +5,7 @@ pub mod Placing
 pub mod Playing
 pub mod Promises
 pub mod Played
+pub mod Putting
 pub mod Settling
 pub mod Holding
 pub mod Steps

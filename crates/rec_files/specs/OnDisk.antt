@@ -222,15 +222,21 @@ abbrev pub LastingRequest : (List ℕ → List ℕ) → (List ℕ → Bool) → 
 LastingRequest folder syncs p old new = (new ≡ old) ⊎ ((crash : Bool) (c : Contents) → CanSync folder syncs crash p
     → Told old (IsRead p c) → Told new (λ u. (d : Contents) × Holds crash p d u))
 
--- From contents with a regular journal: the request changes nothing; or at any moment of it, whatever a stop or a crash
--- leaves in order under the working names, by some paths of the two, can be told to be left over, if it could before.
-abbrev pub RecoversRequest : (List ℕ → List ℕ) → (List ℕ → List ℕ) → (List ℕ → Bool) → Places → Option Story
+-- Nothing is changed; or at any moment, whatever a stop or a crash leaves in order under the working names, by some
+-- paths of the two, can be told to be left over, if it could before.
+abbrev pub RecoversThen : (List ℕ → List ℕ) → (List ℕ → List ℕ) → (List ℕ → Bool) → Places → Option Story
     → Option Story → Type 0
-RecoversRequest place folder syncs p old new = (c : Contents) → Told old (IsRead p c) → IsRegular c.journal
-    → (new ≡ old) ⊎ ((file journal : List ℕ) × Told old (λ s. (place file ≡ p.file) × (place journal ≡ p.journal))
+RecoversThen place folder syncs p old new = (new ≡ old)
+    ⊎ ((file journal : List ℕ) × Told old (λ s. (place file ≡ p.file) × (place journal ≡ p.journal))
     × ((crash : Bool) → CanSyncAll folder syncs crash (sites_of place file journal)
     → Told old (AreTold crash folder (sites_of place file journal))
     → AtAnyMoment old new (λ s u. AreTold crash folder (sites_of place file journal) u)))
+
+-- so it is of a request, from contents with a regular journal
+abbrev pub RecoversRequest : (List ℕ → List ℕ) → (List ℕ → List ℕ) → (List ℕ → Bool) → Places → Option Story
+    → Option Story → Type 0
+RecoversRequest place folder syncs p old new = (c : Contents) → Told old (IsRead p c) → IsRegular c.journal
+    → RecoversThen place folder syncs p old new
 
 -- all that is said of a request on a disk, by its answer
 pub record IsRequestAt (place folder : List ℕ → List ℕ) (syncs : List ℕ → Bool) (p : Places) (asked : Asked)

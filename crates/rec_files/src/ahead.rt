@@ -1,7 +1,7 @@
 //! A disk, with the journal that was read ahead on it: so a look gives a file and a journal that belong together.
 ghost use Rattle.std.specs.Prelude.{◌≡◌, ◌≢◌, [], IfOk, IfSome, IsSome, OnOk, option_map, string_bytes};
 ghost use Rattle.rec_disk.specs.Disk.{Told, IsMemory};
-ghost use Rattle.rec_files.specs.Succeeding.{IsTold, IsShort, IsThere, IsRegularAt, IsStanding};
+ghost use Rattle.rec_files.specs.Succeeding.{IsShort, IsThere, IsRegularAt, IsStanding};
 ghost use Rattle.rec_files.specs.proving.Succeeding.{Succeeds, IsOwnJournal, IsAhead, CanLook};
 
 use crate::files::look_at;
@@ -75,10 +75,10 @@ impl<D: Disk + Drop> Ahead<D> {
             → OnOk result (Told (D.story self.old) (λ s. IsSome (s.at (D.leads path.now)))) }
         ensures regular { string_bytes journal.now ≢ []
             → OnOk result (Told (D.story self.old) (IsRegularAt D.leads D.regular path.now)) }
-        ensures succeeds { Succeeds IsMemory (D.works self.old) (D.works self.new) (IsTold (D.story self.old)
-            (λ s. (string_bytes journal.now ≢ [] → IsRegularAt D.leads D.regular path.now s)
-            × IsThere which path.now (λ n. IsShort s n × (which ≡ Which.Journal → IsOwnJournal
-            (option_map (λ file. s.at (D.leads (string_bytes file))) file.now) n)) (s.at (D.leads path.now)))) result }
+        ensures succeeds { Succeeds IsMemory D.works D.story self.old self.new result (λ s. (string_bytes journal.now ≢
+            [] → IsRegularAt D.leads D.regular path.now s) × IsThere which path.now (λ n. IsShort s n × (which ≡
+            Which.Journal → IsOwnJournal (option_map (λ file. s.at (D.leads (string_bytes file))) file.now) n)) (s.at
+            (D.leads path.now))) }
     {
         let only_regular = !journal.is_empty();
         match which {
@@ -130,8 +130,7 @@ fn read_both<D: Disk>(
     ensures regular { OnOk result (Told (D.story disk.old) (IsRegularAt D.leads D.regular path.now)) }
     ensures ahead { IfOk result (λ read. IfSome read.1 (λ ahead. Told (D.story disk.old)
         (IsAhead D.leads D.regular (string_bytes ahead.path) ahead.bytes.items))) }
-    ensures succeeds { Succeeds IsMemory (D.works disk.old) (D.works disk.new) (IsTold (D.story disk.old)
-        (CanLook D.leads D.regular path.now)) result }
+    ensures succeeds { Succeeds IsMemory D.works D.story disk.old disk.new result (CanLook D.leads D.regular path.now) }
 {
     for _ in 0..TRIES {
         let seen = disk.status_after_links(path);
@@ -150,8 +149,7 @@ fn read_file<D: Disk>(disk: &mut D, alloc: Global, path: &str) -> io::Result<Vec
     ensures whole { IfOk result (λ bytes. Told (D.story disk.old) (IsStanding D.leads path.now bytes.items)) }
     ensures there { OnOk result (Told (D.story disk.old) (λ s. IsSome (s.at (D.leads path.now)))) }
     ensures regular { OnOk result (Told (D.story disk.old) (IsRegularAt D.leads D.regular path.now)) }
-    ensures succeeds { Succeeds IsMemory (D.works disk.old) (D.works disk.new) (IsTold (D.story disk.old)
-        (CanLook D.leads D.regular path.now)) result }
+    ensures succeeds { Succeeds IsMemory D.works D.story disk.old disk.new result (CanLook D.leads D.regular path.now) }
 {
     look_at(disk, alloc, Which::Base, path, &None, true)
 }

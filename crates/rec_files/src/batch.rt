@@ -3,7 +3,7 @@ ghost use Rattle.std.specs.Prelude.{◌≡◌, ◌≢◌, ◌≤◌, codes, leng
 ghost use Rattle.rec_text.specs.Faults.{IsOkUnlessEither};
 ghost use Rattle.rec_disk.specs.Disk.{Told, IsMemory};
 ghost use Rattle.rec_disk.specs.Lasting.{shown};
-ghost use Rattle.rec_files.specs.Succeeding.{IsTold, IsShort};
+ghost use Rattle.rec_files.specs.Succeeding.{IsShort};
 ghost use Rattle.rec_files.specs.proving.Succeeding.{Succeeds};
 
 use crate::files::is_out_of_memory;
@@ -66,8 +66,8 @@ fn read_at<D: Disk>(disk: &mut D, alloc: Global, path: &str) -> io::Result<Vec<u
     ensures bytes { IfOk result (λ bytes. Told (D.story disk.old)
         (λ s. shown s.bytes (s.at (D.leads path.now)) ≡ Some bytes.items)) }
     ensures limit { IfOk result (λ bytes. length bytes.items ≤ LIMIT) }
-    ensures succeeds { Succeeds IsMemory (D.works disk.old) (D.works disk.new) (IsTold (D.story disk.old)
-        (λ s. IsSomeAnd (s.at (D.leads path.now)) (IsShort s))) result }
+    ensures succeeds { Succeeds IsMemory D.works D.story disk.old disk.new result (λ s. IsSomeAnd (s.at (D.leads
+        path.now)) (IsShort s)) }
 {
     let file = disk.open(path)?;
     let opened = OpenFile::new(disk, file)?;

@@ -4,7 +4,7 @@ ghost use Rattle.rec_text.specs.Faults.{IsOkUnlessEither};
 ghost use Rattle.rec_disk.specs.Disk.{Told, IsMemory};
 ghost use Rattle.rec_disk.specs.Paths.{journal_of};
 ghost use Rattle.rec_files.specs.Paths.{LeadToOne, HasNoOtherJournal, AreDefaultPaths};
-ghost use Rattle.rec_files.specs.Succeeding.{IsTold, IsRegularAt};
+ghost use Rattle.rec_files.specs.Succeeding.{IsRegularAt};
 ghost use Rattle.rec_files.specs.proving.Succeeding.{Succeeds};
 
 use crate::failure::not_regular;
@@ -48,8 +48,8 @@ pub fn default_paths<R: Eprint + AllocGlobal, D: Disk>(
 fn require_regular<D: Disk>(disk: &mut D, path: &str) -> io::Result<()>
     ensures same { D.story disk.new ≡ D.story disk.old }
     ensures regular { OnOk result (Told (D.story disk.old) (IsRegularAt D.leads D.regular path.now)) }
-    ensures succeeds { Succeeds IsMemory (D.works disk.old) (D.works disk.new) (IsTold (D.story disk.old)
-        (IsRegularAt D.leads D.regular path.now)) result }
+    ensures succeeds { Succeeds IsMemory D.works D.story disk.old disk.new result (IsRegularAt D.leads D.regular
+        path.now) }
 {
     match if_there(disk.status_after_links(path))? {
         Some(there) if !D::is_regular(&there) => Err(not_regular()),
@@ -110,8 +110,7 @@ fn is_free_or<D: Disk>(disk: &mut D, path: &str, other: &str) -> io::Result<bool
     ensures same { D.story disk.new ≡ D.story disk.old }
     ensures is { IfOk result (λ is. Told (D.story disk.old) (λ s. IsTrue is
         ↔ ((s.at (D.place path.now) ≡ None) ⊎ LeadToOne D.leads path.now other.now s))) }
-    ensures succeeds { Succeeds IsMemory (D.works disk.old) (D.works disk.new) (IsTold (D.story disk.old)
-        (λ s. Unit {0})) result }
+    ensures succeeds { Succeeds IsMemory D.works D.story disk.old disk.new result (λ s. Unit {0}) }
 {
     match if_there(disk.status(path))? {
         Some(_) => lead_to_one(disk, path, other),
@@ -124,8 +123,7 @@ fn lead_to_one<D: Disk>(disk: &mut D, first: &str, second: &str) -> io::Result<b
     ensures same { D.story disk.new ≡ D.story disk.old }
     ensures one { IfOk result (λ one. Told (D.story disk.old)
         (λ s. IsTrue one ↔ LeadToOne D.leads first.now second.now s)) }
-    ensures succeeds { Succeeds IsMemory (D.works disk.old) (D.works disk.new) (IsTold (D.story disk.old)
-        (λ s. Unit {0})) result }
+    ensures succeeds { Succeeds IsMemory D.works D.story disk.old disk.new result (λ s. Unit {0}) }
 {
     let Some(first) = if_there(disk.status_after_links(first))? else {
         return Ok(false);

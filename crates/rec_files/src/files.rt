@@ -11,7 +11,7 @@ ghost use Rattle.rec_disk.specs.Lasting.{shown};
 ghost use Rattle.rec_tools.specs.Home.{got, unread};
 ghost use Rattle.rec_files.specs.OnDisk.{or_empty, contents_on, places_by, IsReadOf};
 ghost use Rattle.rec_files.specs.Paths.{path_of};
-ghost use Rattle.rec_files.specs.Succeeding.{HomeGoes, IsTold, IsShort, IsThere, IsReadable, IsShut, NotesRead, kept};
+ghost use Rattle.rec_files.specs.Succeeding.{HomeGoes, IsShort, IsThere, IsReadable, IsShut, NotesRead, kept};
 ghost use Rattle.rec_files.specs.Succeeding.{IsRegularAt, ReadsRegular, FailedForMemory, HadAll, GoesOn, IsLastOf};
 ghost use Rattle.rec_files.specs.Succeeding.{IfLocked, let_go, IsStanding, CanGoOn};
 ghost use Rattle.rec_files.specs.proving.Succeeding.{Succeeds, IsOwnJournal};
@@ -196,9 +196,8 @@ impl<'r, R: Input + AllocGlobal, D: Disk + Drop> DiskHome<'r, R, D> {
             (string_bytes self.old.journal) (D.story self.old.disk) which bytes.items) }
         ensures there { which ≡ Which.Base → OnOk result (IfSome self.old.file (λ file. Told (D.story self.old.disk)
             (λ s. IsSome (s.at (D.leads (string_bytes file)))))) }
-        ensures succeeds { Succeeds FailedForMemory (D.works self.old.disk) (D.works self.new.disk)
-            (IsTold (D.story self.old.disk) (HadAll D.place D.leads D.link D.regular
-            (kept D.number D.tells self.old) (unread which))) result }
+        ensures succeeds { Succeeds FailedForMemory D.works D.story self.old.disk self.new.disk result (HadAll D.place
+            D.leads D.link D.regular (kept D.number D.tells self.old) (unread which)) }
         ensures access { self.new.access ≡ self.old.access }
         ensures regular { IfOk result (λ bytes. ReadsRegular D.leads D.regular (kept D.number D.tells self.old)
             (D.story self.old.disk) (got which bytes.items)) }
@@ -230,11 +229,9 @@ impl<'r, R: Input + AllocGlobal, D: Disk + Drop> DiskHome<'r, R, D> {
             (string_bytes self.old.journal) (D.story self.old.disk) which bytes.items) }
         ensures there { which ≡ Which.Base → OnOk result (IfSome self.old.file (λ file. Told (D.story self.old.disk)
             (λ s. IsSome (s.at (D.leads (string_bytes file)))))) }
-        ensures succeeds { Succeeds IsMemory (D.works self.old.disk) (D.works self.new.disk)
-            (IsTold (D.story self.old.disk) (IsReadable D.leads D.link D.regular self.old.access
-            (option_map string_bytes self.old.file) (string_bytes self.old.journal)
-            (option_and_then (λ file. option_map (λ opened. D.tells opened.seen) file.old) self.old.both.file) which))
-            result }
+        ensures succeeds { Succeeds IsMemory D.works D.story self.old.disk self.new.disk result (IsReadable D.leads
+            D.link D.regular self.old.access (option_map string_bytes self.old.file) (string_bytes self.old.journal)
+            (option_and_then (λ file. option_map (λ opened. D.tells opened.seen) file.old) self.old.both.file) which) }
         ensures access { self.new.access ≡ self.old.access }
         ensures regular { IfOk result (λ bytes. ReadsRegular D.leads D.regular (kept D.number D.tells self.old)
             (D.story self.old.disk) (got which bytes.items)) }
@@ -373,8 +370,8 @@ fn let_go<D: Disk>(
         (λ bytes. Told (D.story disk.old) (IsStanding D.leads journal.now bytes)))) }
     ensures still { which ≡ Which.Journal → last.new ≡ last.old }
     ensures last { IsLastOf D.leads journal.now last.old last.new (D.story disk.old) }
-    ensures succeeds { Succeeds IsMemory (D.works disk.old) (D.works disk.new) (IsTold (D.story disk.old)
-        (CanGoOn D.leads D.regular journal.now last.old which)) result }
+    ensures succeeds { Succeeds IsMemory D.works D.story disk.old disk.new result (CanGoOn D.leads D.regular journal.now
+        last.old which) }
 {
     match which {
         Which::Journal => Ok(()),
@@ -405,10 +402,10 @@ pub fn look_at<D: Disk>(
     ensures there { which ≡ Which.Base → OnOk result (Told (D.story disk.old) (λ s. IsSome (s.at (D.leads path.now)))) }
     ensures regular { only_regular ≡ true
         → OnOk result (Told (D.story disk.old) (IsRegularAt D.leads D.regular path.now)) }
-    ensures succeeds { Succeeds IsMemory (D.works disk.old) (D.works disk.new) (IsTold (D.story disk.old)
-        (λ s. (only_regular ≡ true → IsRegularAt D.leads D.regular path.now s)
-        × IsThere which path.now (λ n. IsShort s n × (which ≡ Which.Journal → IsOwnJournal
-        (option_map (λ file. s.at (D.leads (string_bytes file))) other.now) n)) (s.at (D.leads path.now)))) result }
+    ensures succeeds { Succeeds IsMemory D.works D.story disk.old disk.new result (λ s. (only_regular ≡ true →
+        IsRegularAt D.leads D.regular path.now s) × IsThere which path.now (λ n. IsShort s n × (which ≡ Which.Journal
+        → IsOwnJournal (option_map (λ file. s.at (D.leads (string_bytes file))) other.now) n))
+        (s.at (D.leads path.now))) }
 {
     match open(disk, path, only_regular) {
         Ok(file) => {
@@ -433,9 +430,8 @@ fn open<D: Disk>(disk: &mut D, path: &str, only_regular: bool) -> io::Result<D::
         → OnOk result (Told (D.story disk.old) (IsRegularAt D.leads D.regular path.now)) }
     ensures missing { IfErr result (λ error. error_kind error ≡ ErrorKind.NotFound
         → Told (D.story disk.old) (λ s. s.at (D.leads path.now) ≡ None)) }
-    ensures succeeds { Succeeds (λ error. IsMemory error ⊎ (error_kind error ≡ ErrorKind.NotFound)) (D.works disk.old)
-        (D.works disk.new) (IsTold (D.story disk.old)
-        (λ s. only_regular ≡ true → IsRegularAt D.leads D.regular path.now s)) result }
+    ensures succeeds { Succeeds (λ error. IsMemory error ⊎ (error_kind error ≡ ErrorKind.NotFound)) D.works D.story
+        disk.old disk.new result (λ s. only_regular ≡ true → IsRegularAt D.leads D.regular path.now s) }
 {
     if only_regular && !D::is_regular(&disk.status_after_links(path)?) {
         return Err(not_regular());
@@ -455,8 +451,8 @@ fn is_the_file<D: Disk>(
     ensures same { D.story disk.new ≡ D.story disk.old }
     ensures the_file { IfOk result (λ is. Told (D.story disk.old) (λ s. IsTrue is ↔ ((which ≡ Which.Journal)
         × IsSomeAnd other.now (λ path. s.at (D.leads (string_bytes path)) ≡ Some (D.number file.now))))) }
-    ensures succeeds { Succeeds IsMemory (D.works disk.old) (D.works disk.new) (IsTold (D.story disk.old)
-        (λ s. which ≡ Which.Journal → IfSome other.now (λ path. IsSome (s.at (D.leads (string_bytes path)))))) result }
+    ensures succeeds { Succeeds IsMemory D.works D.story disk.old disk.new result (λ s. which ≡ Which.Journal → IfSome
+        other.now (λ path. IsSome (s.at (D.leads (string_bytes path))))) }
 {
     match (which, other) {
         (Which::Journal, Some(other)) => {

@@ -3,7 +3,7 @@ ghost use Rattle.std.specs.Prelude.{◌≡◌, ◌≢◌, ◌≤◌, length, Non
 ghost use Rattle.std.specs.Prelude.{option_map, ◌↔◌, IsTrue, IsSomeAnd};
 ghost use Rattle.std.specs.IoError.{error_kind};
 ghost use Rattle.rec_disk.specs.Disk.{Told, IsLookFor, IsMemory};
-ghost use Rattle.rec_files.specs.Succeeding.{IsTold, SawAnother, IsUnlocked};
+ghost use Rattle.rec_files.specs.Succeeding.{SawAnother, IsUnlocked};
 ghost use Rattle.rec_files.specs.proving.Succeeding.{Succeeds, CanRead};
 
 use crate::failure::{changed, locked, one_file};
@@ -30,8 +30,7 @@ impl<D: Disk> OpenFile<D> {
         ensures file { IfOk result (λ opened. opened.file ≡ file) }
         ensures seen { IfOk result (λ opened. Told (D.story disk.old)
             (λ s. IsSomeAnd (D.tells opened.seen) (IsLookFor s (D.number opened.file)))) }
-        ensures succeeds { Succeeds IsMemory (D.works disk.old) (D.works disk.new) (IsTold (D.story disk.old)
-            (λ s. Unit {0})) result }
+        ensures succeeds { Succeeds IsMemory D.works D.story disk.old disk.new result (λ s. Unit {0}) }
     {
         let seen = disk.status_of(&file)?;
         Ok(OpenFile { file, seen })
@@ -43,8 +42,8 @@ impl<D: Disk> OpenFile<D> {
         ensures limit { IfOk result (λ bytes. length bytes.items ≤ LIMIT) }
         ensures whole { IfOk result (λ bytes. Told (D.story disk.old)
             (λ s. bytes.items ≡ s.bytes (D.number self.now.file))) }
-        ensures succeeds { Succeeds IsMemory (D.works disk.old) (D.works disk.new) (IsTold (D.story disk.old)
-            (CanRead (D.number self.now.file) (D.tells self.now.seen))) result }
+        ensures succeeds { Succeeds IsMemory D.works D.story disk.old disk.new result (CanRead (D.number self.now.file)
+            (D.tells self.now.seen)) }
     {
         let bytes = read_whole(disk, alloc, which, &self.file)?;
         if self.is_disturbed(disk)? {
@@ -58,8 +57,7 @@ impl<D: Disk> OpenFile<D> {
         ensures same { D.story disk.new ≡ D.story disk.old }
         ensures still { IfOk result (λ disturbed. Told (D.story disk.old)
             (λ s. CanRead (D.number self.now.file) (D.tells self.now.seen) s → disturbed ≡ false)) }
-        ensures succeeds { Succeeds IsMemory (D.works disk.old) (D.works disk.new) (IsTold (D.story disk.old)
-            (λ s. Unit {0})) result }
+        ensures succeeds { Succeeds IsMemory D.works D.story disk.old disk.new result (λ s. Unit {0}) }
     {
         Ok(D::is_regular(&self.seen) && !D::is_unchanged(&self.seen, &disk.status_of(&self.file)?))
     }
@@ -73,10 +71,9 @@ pub fn lock<D: Disk>(disk: &mut D, path: &str, other: Option<&D::Status>) -> io:
     ensures seen { IfOk result (λ opened. Told (D.story disk.old)
         (λ s. IsSomeAnd (D.tells opened.seen) (IsLookFor s (D.number opened.file)))) }
     ensures free { IfOk result (λ opened. Told (D.story disk.old) (λ s. s.held (D.number opened.file) ≡ false)) }
-    ensures succeeds { Succeeds IsMemory (D.works disk.old) (D.works disk.new) (IsTold (D.story disk.old)
-        (λ s. (D.leads path.now ≡ D.place path.now)
-        × IsSomeAnd (s.at (D.leads path.now))
-        (IsUnlocked (option_map (λ other. D.tells other.now) other.entry) s))) result }
+    ensures succeeds { Succeeds IsMemory D.works D.story disk.old disk.new result (λ s. (D.leads path.now ≡ D.place
+        path.now) × IsSomeAnd (s.at (D.leads path.now)) (IsUnlocked (option_map (λ other. D.tells other.now)
+        other.entry) s)) }
 {
     for _ in 0..TRIES {
         if let Some(file) = try_to_lock(disk, path, other)? {
@@ -101,9 +98,8 @@ fn try_to_lock<D: Disk>(
         (λ s. s.held (D.number opened.file) ≡ false))) }
     ensures first { IfOk result (λ tried. Told (D.story disk.old)
         (λ s. (D.leads path.now ≡ D.place path.now) → IsSome tried)) }
-    ensures succeeds { Succeeds IsMemory (D.works disk.old) (D.works disk.new) (IsTold (D.story disk.old)
-        (λ s. IsSomeAnd (s.at (D.leads path.now))
-        (IsUnlocked (option_map (λ other. D.tells other.now) other.entry) s))) result }
+    ensures succeeds { Succeeds IsMemory D.works D.story disk.old disk.new result (λ s. IsSomeAnd (s.at (D.leads
+        path.now)) (IsUnlocked (option_map (λ other. D.tells other.now) other.entry) s)) }
 {
     let file = open_to_lock(disk, path)?;
     if is_that(disk, &file, other)? {
@@ -124,8 +120,8 @@ fn open_to_lock<D: Disk>(disk: &mut D, path: &str) -> io::Result<D::File>
     ensures same { D.story disk.new ≡ D.story disk.old }
     ensures opened { IfOk result (λ file. Told (D.story disk.old)
         (λ s. s.at (D.leads path.now) ≡ Some (D.number file))) }
-    ensures succeeds { Succeeds IsMemory (D.works disk.old) (D.works disk.new) (IsTold (D.story disk.old)
-        (λ s. IsSome (s.at (D.leads path.now)))) result }
+    ensures succeeds { Succeeds IsMemory D.works D.story disk.old disk.new result (λ s. IsSome (s.at (D.leads
+        path.now))) }
 {
     match disk.open_to_write(path) {
         Ok(file) => Ok(file),
@@ -137,8 +133,7 @@ fn is_that<D: Disk>(disk: &mut D, file: &D::File, other: Option<&D::Status>) -> 
     ensures same { D.story disk.new ≡ D.story disk.old }
     ensures other { IfOk result (λ that. Told (D.story disk.old)
         (λ s. SawAnother (D.number file.now) (option_map (λ other. D.tells other.now) other.entry) → that ≡ false)) }
-    ensures succeeds { Succeeds IsMemory (D.works disk.old) (D.works disk.new) (IsTold (D.story disk.old)
-        (λ s. Unit {0})) result }
+    ensures succeeds { Succeeds IsMemory D.works D.story disk.old disk.new result (λ s. Unit {0}) }
 {
     match other {
         Some(other) => Ok(D::are_one(other, &disk.status_of(file)?)),
@@ -151,8 +146,7 @@ pub fn leads_to<D: Disk>(disk: &mut D, name: &str, file: &D::File) -> io::Result
     ensures same { D.story disk.new ≡ D.story disk.old }
     ensures leads { IfOk result (λ leads. Told (D.story disk.old)
         (λ s. IsTrue leads ↔ (s.at (D.place name.now) ≡ Some (D.number file.now)))) }
-    ensures succeeds { Succeeds IsMemory (D.works disk.old) (D.works disk.new)
-        (IsTold (D.story disk.old) (λ s. Unit {0})) result }
+    ensures succeeds { Succeeds IsMemory D.works D.story disk.old disk.new result (λ s. Unit {0}) }
 {
     let own = disk.status_of(file)?;
     match if_there(disk.status(name))? {

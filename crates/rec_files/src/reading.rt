@@ -1,7 +1,7 @@
 //! Files and other readers are read to their end, within a limit.
 ghost use Rattle.std.specs.Prelude.{◌≡◌, ◌≤◌, ◌++◌, length, IfOk, IfSome};
 ghost use Rattle.rec_disk.specs.Disk.{Told, IsMemory};
-ghost use Rattle.rec_files.specs.Succeeding.{IsTold, IsShort};
+ghost use Rattle.rec_files.specs.Succeeding.{IsShort};
 ghost use Rattle.rec_files.specs.proving.Succeeding.{Succeeds};
 
 use crate::failure::too_long;
@@ -23,8 +23,7 @@ pub fn read_whole<D: Disk>(
     ensures same { D.story disk.new ≡ D.story disk.old }
     ensures limit { IfOk result (λ bytes. length bytes.items ≤ LIMIT) }
     ensures whole { IfOk result (λ bytes. Told (D.story disk.old) (λ s. bytes.items ≡ s.bytes (D.number file.now))) }
-    ensures succeeds { Succeeds IsMemory (D.works disk.old) (D.works disk.new) (IsTold (D.story disk.old)
-        (λ s. IsShort s (D.number file.now))) result }
+    ensures succeeds { Succeeds IsMemory D.works D.story disk.old disk.new result (λ s. IsShort s (D.number file.now)) }
 {
     if D::length(&disk.status_of(file)?) > LIMIT {
         return Err(too_long(which));

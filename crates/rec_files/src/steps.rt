@@ -1,11 +1,11 @@
 //! The steps in which the file and its journal are replaced, and what takes them in turn.
-ghost use Rattle.std.specs.Prelude.{◌≡◌, ◌≤◌, ◌<◌, ℕ, List, Some, None, IfOk, IfErr, OnOk, OnErr, length, option_copied, option_map};
+ghost use Rattle.std.specs.Prelude.{◌≡◌, ◌≤◌, ◌<◌, Some, None, IfOk, IfErr, OnOk, OnErr, length, option_copied, option_map};
 ghost use Rattle.std.specs.List.{AllByRecursion};
 ghost use Rattle.std.specs.Result.{is_ok};
-ghost use Rattle.rec_files.specs.Succeeding.{IsTold, FailedForMemory};
+ghost use Rattle.rec_files.specs.Succeeding.{FailedForMemory};
 ghost use Rattle.rec_files.specs.proving.Succeeding.{Succeeds};
 ghost use Rattle.rec_files.specs.proving.Steps.{Acts, Needs, Fits, Takes, Plays, CanPlay, StepFits, StepNeeds, numbers};
-ghost use Rattle.rec_files.specs.proving.Steps.{ways_of, side_by, task_of, list_for, removing, settling};
+ghost use Rattle.rec_files.specs.proving.Steps.{ways_of, side_by, task_of, list_for, ready, removing};
 
 use crate::failure::{Cause, Failure, too_long, unread};
 use crate::reading::LIMIT;
@@ -42,6 +42,8 @@ pub enum Act {
     SyncLast,
     /// Removes what was made and not put in place.
     Remove,
+    /// Removes what was found under the working name, where something was.
+    Clear,
 }
 
 use Act::*;
@@ -49,8 +51,22 @@ use Act::*;
 #[derive(Clone, Copy)]
 pub struct Step(pub Which, pub Act);
 
-/// A power cut that comes while both are replaced then leaves each as it was read, or what replaces it.
-const SETTLING: [Step; 4] = [
+/// What was left of the file is removed. Then both are settled: a power cut that comes while they are replaced leaves each as it
+/// was read, or what replaces it.
+const READY: [Step; 5] = [
+    Step(Base, Clear),
+    Step(Base, Settle),
+    Step(Base, Sync),
+    Step(Journal, Settle),
+    Step(Journal, Sync),
+];
+
+/// What was left of the journal goes last. What was left of the file went before it, by an earlier command too: after a power
+/// cut it isn't back without the journal's.
+const READY_OF_BOTH: [Step; 7] = [
+    Step(Base, Clear),
+    Step(Base, Part),
+    Step(Journal, Clear),
     Step(Base, Settle),
     Step(Base, Sync),
     Step(Journal, Settle),
@@ -96,11 +112,14 @@ const REMOVE_BOTH: [Step; 3] = [Step(Base, Remove), Step(Base, Part), Step(Journ
 
 const REMOVE_JOURNAL: [Step; 1] = [Step(Journal, Remove)];
 
-/// Both are synced as they were read, and their folders.
-pub fn settling_steps() -> &'static [Step]
-    ensures { result.now ≡ settling }
+/// What was found is removed, and both are synced as they were read, and their folders.
+pub fn ready_steps<D: Disk>(found: &Made<D>) -> &'static [Step]
+    ensures { result.now ≡ ready (option_map D.number found.now.journal) }
 {
-    &SETTLING
+    match found.journal {
+        Some(_) => &READY_OF_BOTH,
+        None => &READY,
+    }
 }
 
 /// Both are put in place, or the journal alone.
@@ -123,7 +142,7 @@ pub fn removing_steps<D: Disk>(made: &Made<D>) -> &'static [Step]
     }
 }
 
-/// What was made to take the place of the two, open and locked.
+/// What was made to take the place of the two, or was found where it is made, open and locked.
 #[derive(Drop)]
 pub struct Made<D: Disk> {
     pub file: Option<D::File>,
@@ -164,10 +183,9 @@ pub fn play<D: Disk>(
         (numbers D.number made.new) (D.story disk.old) (D.story disk.new) }
     ensures fits { OnOk result (AllByRecursion (StepFits (task_of D.number D.tells pair.now.file.now
         pair.now.journal.now pair.now.file_bytes.now pair.now.journal_bytes.now)) steps.now) }
-    ensures succeeds { Succeeds FailedForMemory (D.works disk.old) (D.works disk.new) (IsTold (D.story disk.old)
-        (CanPlay (ways_of D.place D.leads D.folder D.syncs D.regular)
-        (task_of D.number D.tells pair.now.file.now pair.now.journal.now pair.now.file_bytes.now
-        pair.now.journal_bytes.now) steps.now (numbers D.number made.old))) result }
+    ensures succeeds { Succeeds FailedForMemory D.works D.story disk.old disk.new result (CanPlay (ways_of D.place
+        D.leads D.folder D.syncs D.regular) (task_of D.number D.tells pair.now.file.now pair.now.journal.now
+        pair.now.file_bytes.now pair.now.journal_bytes.now) steps.now (numbers D.number made.old)) }
 {
     for step in steps {
         take(disk, alloc, pair, made, *step)?;
@@ -188,10 +206,9 @@ fn take<D: Disk>(
         (numbers D.number made.new) (D.story disk.old) (D.story disk.new) }
     ensures fits { OnOk result (StepFits (task_of D.number D.tells pair.now.file.now pair.now.journal.now
         pair.now.file_bytes.now pair.now.journal_bytes.now) step) }
-    ensures succeeds { Succeeds FailedForMemory (D.works disk.old) (D.works disk.new) (IsTold (D.story disk.old)
-        (StepNeeds (ways_of D.place D.leads D.folder D.syncs D.regular)
-        (task_of D.number D.tells pair.now.file.now pair.now.journal.now pair.now.file_bytes.now
-        pair.now.journal_bytes.now) step (numbers D.number made.old))) result }
+    ensures succeeds { Succeeds FailedForMemory D.works D.story disk.old disk.new result (StepNeeds (ways_of D.place
+        D.leads D.folder D.syncs D.regular) (task_of D.number D.tells pair.now.file.now pair.now.journal.now
+        pair.now.file_bytes.now pair.now.journal_bytes.now) step (numbers D.number made.old)) }
 {
     match step.0 {
         Which::Base => perform(
@@ -229,9 +246,9 @@ fn perform<D: Disk>(
         (side_by D.number D.tells target.now other.now bytes.now) act (is_ok result) (option_map D.number new.old)
         (option_map D.number new.new) (D.story disk.old) (D.story disk.new) }
     ensures fits { OnOk result (Fits act bytes.now) }
-    ensures succeeds { Succeeds FailedForMemory (D.works disk.old) (D.works disk.new) (IsTold (D.story disk.old)
-        (Needs (ways_of D.place D.leads D.folder D.syncs D.regular)
-        (side_by D.number D.tells target.now other.now bytes.now) act (option_map D.number new.old))) result }
+    ensures succeeds { Succeeds FailedForMemory D.works D.story disk.old disk.new result (Needs (ways_of D.place D.leads
+        D.folder D.syncs D.regular) (side_by D.number D.tells target.now other.now bytes.now) act (option_map D.number
+        new.old)) }
 {
     match act {
         Make => target.make_new(disk, new),
@@ -242,6 +259,7 @@ fn perform<D: Disk>(
         SyncLast => target.sync_last(disk),
         Look => target.look_again(disk, new),
         Remove => target.remove_made(disk, new),
+        Clear => target.clear(disk, new),
         Fit => target.fit(disk, alloc, made_of(target, new)?, other),
         Write => target.told(disk.write(made_of(target, new)?, bytes)),
         Keep => target.told(disk.sync(made_of(target, new)?)),

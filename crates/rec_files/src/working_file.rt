@@ -2,7 +2,7 @@
 ghost use Rattle.std.specs.Prelude.{◌≡◌, ◌↔◌, None, IsTrue, IfOk};
 ghost use Rattle.rec_disk.specs.Disk.{Goes, Told, IsMake, IsMemory};
 ghost use Rattle.rec_files.specs.proving.Replacing.{IsFreeAt};
-ghost use Rattle.rec_files.specs.Succeeding.{IsTold, IsForMemory};
+ghost use Rattle.rec_files.specs.Succeeding.{IsForMemory};
 ghost use Rattle.rec_files.specs.proving.Succeeding.{Succeeds};
 
 use crate::failure::{Cause, in_use, is_of_folder};
@@ -14,8 +14,8 @@ use std::io::{Error, ErrorKind};
 /// Makes a file under a working name, at which nothing may stand.
 pub fn create<D: Disk>(disk: &mut D, name: &str) -> Result<D::File, Cause>
     ensures goes { Goes (D.story disk.old) (D.story disk.new) result (IsMake D.number (D.place name.now) result) }
-    ensures succeeds { Succeeds IsForMemory (D.works disk.old) (D.works disk.new) (IsTold (D.story disk.old)
-        (λ s. s.at (D.place name.now) ≡ None)) result }
+    ensures succeeds { Succeeds IsForMemory D.works D.story disk.old disk.new result (λ s. s.at (D.place name.now) ≡
+        None) }
 {
     match disk.make(name) {
         Ok(file) => Ok(file),
@@ -40,8 +40,7 @@ pub fn lock_own<D: Disk>(disk: &mut D, name: &str, file: &D::File) -> io::Result
     ensures same { D.story disk.new ≡ D.story disk.old }
     ensures own { IfOk result (λ own. Told (D.story disk.old)
         (λ s. IsTrue own ↔ IsFreeAt (D.place name.now) (D.number file.now) s)) }
-    ensures succeeds { Succeeds IsMemory (D.works disk.old) (D.works disk.new) (IsTold (D.story disk.old)
-        (λ s. Unit {0})) result }
+    ensures succeeds { Succeeds IsMemory D.works D.story disk.old disk.new result (λ s. Unit {0}) }
 {
     Ok(disk.lock(file)? && leads_to(disk, name, file)?)
 }

@@ -1,7 +1,7 @@
 -- All moments of one call after another.
 use Rattle.std.proofs.Common.{◌≡◌, inl, inr, List, [], ◌∷◌, ◌++◌, Option, Some, None, Result, Ok, Err, refl, sym, ◌∙◌, ap, subst, append_assoc}
 use Rattle.std.specs.List.{AllByRecursion}
-use Rattle.rec_disk.specs.Disk.{State, Story, next, Goes, Told, Ends, AtAnyMoment}
+use Rattle.rec_disk.specs.Disk.{State, Story, next, Goes, Told, AtAnyMoment}
 
 all_append : {X : Type 0} (P : X → Type 0) (xs ys : List X) → AllByRecursion P xs → AllByRecursion P ys → AllByRecursion P (xs ++ ys)
 all_append P [] ys first rest = rest
@@ -39,27 +39,6 @@ module _ (R : State → State → Type 0) where
     ),
   )
 
--- what follows from the first state holds at any moment
-pub moments_from : (R : State → State → Type 0) (P Q : State → Type 0) (o n : Option Story) → ((s t : State) → P s → R s t → Q t) → Told o P → AtAnyMoment o n R → AtAnyMoment o n (λ s u. Q u)
-moments_from R P Q None None keeps told all = tt
-moments_from R P Q None (Some b) keeps told all = absurd all
-moments_from R P Q (Some a) None keeps told all = absurd all
-moments_from R P Q (Some a) (Some b) keeps told all =
-    (keeps a.now b.now told all.0, (all.1.0, all.1.1, all_weaker (R a.now) Q all.1.0 (λ u is. keeps a.now u told is) all.1.2))
-
--- and of the last one
-pub told_from : (P : State → Type 0) (o n : Option Story) → AtAnyMoment o n (λ s u. P u) → Told n P
-told_from P None None all = tt
-told_from P None (Some b) all = absurd all
-told_from P (Some a) None all = absurd all
-told_from P (Some a) (Some b) all = all.0
-
-pub told_end : (R : State → State → Type 0) (P Q : State → Type 0) (o n : Option Story) → ((s t : State) → P s → R s t → Q t) → Told o P → Ends o n R → Told n Q
-told_end R P Q None None keeps told ends = tt
-told_end R P Q None (Some b) keeps told ends = absurd ends
-told_end R P Q (Some a) None keeps told ends = absurd ends
-told_end R P Q (Some a) (Some b) keeps told ends = keeps a.now b.now told ends
-
 pub since_then : (P : State → Type 0) (o b c : Option Story) → AtAnyMoment o b (λ s u. P u) → AtAnyMoment b c (λ s u. P u) → AtAnyMoment o c (λ s u. P u)
 since_then P o b c first rest = and_then (λ s u. P u) o b c (λ s t u one other. other) first rest
 
@@ -72,13 +51,6 @@ by_step R Step P (Some a) n (Ok _) itself steps told (t, step, is) = subst (λ n
 by_step R Step P (Some a) n (Err _) itself steps told (inl same) = still R (Some a) n same itself
 by_step R Step P (Some a) n (Err _) itself steps told (inr (t, step, is)) = subst (λ n. AtAnyMoment (Some a) n R) (sym is) (one_step R a t (itself a.now) (steps a.now t told step))
 
--- after a call that succeeded its step is made
-pub told_step : {X : Type 0} (E : Type 0) (Step : State → State → Type 0) (P Q : State → Type 0) (o n : Option Story) (x : X) → ((s t : State) → P s → Step s t → Q t) → Told o P → Goes {E = E} o n
-    (Ok x) Step → Told n Q
-told_step E Step P Q None None x steps told goes = tt
-told_step E Step P Q None (Some b) x steps told goes = absurd goes
-told_step E Step P Q (Some a) n x steps told (t, step, is) = subst (λ n. Told n Q) (sym is) (steps a.now t told step)
-
 pub told_always : (P : State → Type 0) (o : Option Story) → ((s : State) → P s) → Told o P
 told_always P None all = tt
 told_always P (Some a) all = all a.now
@@ -90,10 +62,3 @@ told_both P Q R (Some a) both p q = both a.now p q
 pub told_so : (P Q : State → Type 0) (o : Option Story) → ((s : State) → P s → Q s) → Told o P → Told o Q
 told_so P Q None so p = tt
 told_so P Q (Some a) so p = so a.now p
-
--- what is kept from the first state on holds of the last one
-pub told_kept : (R : State → State → Type 0) (P Q : State → Type 0) (o n : Option Story) → ((s t : State) → P s → R s t → Q t) → Told o P → AtAnyMoment o n R → Told n Q
-told_kept R P Q None None keeps told all = tt
-told_kept R P Q None (Some b) keeps told all = absurd all
-told_kept R P Q (Some a) None keeps told all = absurd all
-told_kept R P Q (Some a) (Some b) keeps told all = keeps a.now b.now told all.0

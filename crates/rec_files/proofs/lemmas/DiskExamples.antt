@@ -7,7 +7,7 @@ use Rattle.rec_disk.specs.Lasting.{Spares}
 use Rattle.rec_tools.specs.Home.{Write, content_of, writes_by, got, put_all, put_some}
 use Rattle.rec_tools.specs.declared.home.Which.TheVariants.{Base, Journal}
 use Rattle.rec_files.specs.declared.access.Access.TheVariants.{Change as Changes}
-use Rattle.rec_files.specs.declared.last_put.LastPut.TheVariants.{Nothing, Locked}
+use Rattle.rec_files.specs.declared.last_put.LastPut.TheVariants.{Nothing}
 use Rattle.rec_files.specs.Paths.{end_of}
 use Rattle.rec_files.specs.Succeeding.{Kept, IsReadable, IsReadFree, NotesRead, AreAsNoted, ReplacesNoted, CanPut}
 use Rattle.rec_files.proofs.lemmas.Steps.{some_none}

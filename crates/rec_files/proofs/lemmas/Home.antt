@@ -1,50 +1,48 @@
 -- What a call of the home leaves of the contents.
-use Rattle.std.proofs.Common.{◌≡◌, ◌⊎◌, inl, inr, ℕ, ◌≤◌, Bool, false, List, [], length, take, Option, Some, None, refl, sym, ◌∙◌, ap, subst, IfSome, arith}
+use Rattle.std.proofs.Common.{◌≡◌, ◌⊎◌, inl, inr, ℕ, ◌≤◌, Bool, true, false, List, [], length, take, Option, Some, None, refl, sym, ◌∙◌, ap, subst, IfSome, arith}
 use Rattle.std.proofs.lemmas.Bool.{false≢true}
-use Rattle.rec_disk.specs.Disk.{State, Story, Told, AtAnyMoment}
-use Rattle.rec_disk.specs.Lasting.{Spares}
+use Rattle.rec_disk.specs.Disk.{State, Story, Told}
 use Rattle.rec_disk.proofs.lemmas.Places.{leaves_spared}
-use Rattle.rec_disk.proofs.lemmas.Moments.{still, told_so}
+use Rattle.rec_disk.proofs.lemmas.Moments.{still}
 use Rattle.rec_disk.proofs.lemmas.Calls.{spares_still}
-use Rattle.std.specs.Prelude.{Err, IsSome, option_map}
+use Rattle.std.specs.Prelude.{Err, IsSome, option_map, unwrap_or}
 use Rattle.rec_text.specs.declared.fault.Fault.{Fault}
 use Rattle.rec_text.specs.declared.fault.Fault.TheVariants.{StoreFailed}
 use Rattle.rec_tools.specs.Home.{Contents, Write, Call, got, lacked, unread, read_call, CountsOne, put_all, put_some, written, writes_by, left_by, TellsOf, CountsFailure}
 use Rattle.rec_tools.specs.declared.home.Which.{Which}
 use Rattle.rec_tools.specs.declared.home.Which.TheVariants.{Base}
 use Rattle.rec_files.specs.Paths.{path_of}
-use Rattle.rec_files.specs.OnDisk.{Places, Shows, Holds, AreAsBefore, IsRead, IsSecure, CanSync, SecurePut, LastingPut, TouchesOwn, RecoversAt}
+use Rattle.rec_files.specs.OnDisk.{Places, Shows, Holds, AreAsBefore, IsSecure, CanSync, SecurePut, LastingPut, RecoversAt}
 use Rattle.rec_files.specs.OnDisk.{IsCallAt, IsHomeCall, IsReadOf, IsWhole, contents_at, contents_on, places_by, writes_of}
-use Rattle.rec_files.specs.proving.Replacing.{IsPutForGood, LastAs, led}
+use Rattle.rec_files.specs.proving.Replacing.{AreSpared, Between, IsPut, LastAs, led}
 use Rattle.rec_files.proofs.lemmas.Holding.{last_holds, between_written, before_shows, holds_contents, leaves_now}
-use Rattle.rec_files.proofs.lemmas.Replacing.{Until, moments_so}
 
 -- ---- from what is seen to what is left
 
-module _ (folder : List ℕ → List ℕ) (syncs : List ℕ → Bool) (p : Places) (journal : List ℕ) (file : Option (List ℕ)) (o n : Option Story) where
-  until_secure : (crash : Bool) (c : Contents) (s u : State) → Until crash p c journal file s u → IsSecure crash p c (writes_by journal file) s u
-  until_secure crash c s u (inl spared) left leaves =
+module _ (crash : Bool) (p : Places) (c : Contents) (journal : List ℕ) where
+  pub then_secure : (file : Option (List ℕ)) (s u : State) → AreSpared p s u ⊎ Between crash p c journal file u → IsSecure crash p c (writes_by journal file) s u
+  then_secure file s u (inl spared) left leaves =
       inl (leaves_spared crash p.file s u left spared.0 (leaves p.file), leaves_spared crash p.journal s u left spared.1 (leaves p.journal))
-  until_secure crash c s u (inr between) left leaves = inr (between_written crash p c journal u file between left leaves)
+  then_secure file s u (inr between) left leaves = inr (between_written crash p c journal u file between left leaves)
 
-  pub secure_put : ((crash : Bool) (c : Contents) → CanSync folder syncs crash p → Told o (IsRead p c) → AtAnyMoment o n (Until crash p c journal file))
-      → SecurePut folder syncs p (writes_by journal file) o n
-  secure_put moments crash c can read =
-      moments_so (Until crash p c journal file) (IsSecure crash p c (writes_by journal file)) o n (until_secure crash c) (moments crash c can read)
-
-pub lasting_put : (folder : List ℕ → List ℕ) (syncs : List ℕ → Bool) (p : Places) (journal : List ℕ) (file : Option (List ℕ)) (o n : Option Story)
-    → IsPutForGood folder syncs p journal file o n → LastingPut folder syncs p (writes_by journal file) o n
-lasting_put folder syncs p journal None o n persists crash c can read =
-    told_so (LastAs crash p c.file journal) (Holds crash p (written c (writes_by journal None))) n
-    (λ s last. last_holds crash p (written c (writes_by journal None)) s last) (persists crash c can read)
-lasting_put folder syncs p journal (Some file) o n persists crash c can read =
-    told_so (LastAs crash p file journal) (Holds crash p (written c (writes_by journal (Some file)))) n
-    (λ s last. last_holds crash p (written c (writes_by journal (Some file))) s last) (persists crash c can read)
+  pub last_written : (file : Option (List ℕ)) (u : State) → LastAs crash p (unwrap_or file c.file) journal u → Holds crash p (written c (writes_by journal file)) u
+  last_written None u last = last_holds crash p (written c (writes_by journal None)) u last
+  last_written (Some file) u last = last_holds crash p (written c (writes_by journal (Some file))) u last
 
 -- where nothing is changed
 pub secure_still : (folder : List ℕ → List ℕ) (syncs : List ℕ → Bool) (p : Places) (writes : List Write) (o n : Option Story) → n ≡ o → SecurePut folder syncs p writes o n
 secure_still folder syncs p writes o n same crash c can read =
     still (IsSecure crash p c writes) o n same (λ s left leaves. inl (leaves p.file, leaves p.journal))
+
+pub call_still : (place folder : List ℕ → List ℕ) (syncs : List ℕ → Bool) (p : Places) (o n : Option Story) (call : Call) → n ≡ o → (IsWhole call → ⊥) → IsCallAt place folder syncs p o call n
+call_still place folder syncs p o n call same not_whole = record {
+  any_moment = secure_still folder syncs p (writes_of call) o n same;
+  lasts = λ whole. absurd (not_whole whole);
+  still = λ none. same;
+  alone = λ one. spares_still p.file o n same;
+  touches = inl same;
+  recovers = inl same;
+}
 
 -- ---- contents
 
@@ -94,14 +92,7 @@ module _ (folder : List ℕ → List ℕ) (syncs : List ℕ → Bool) (p : Place
 module _ (place folder : List ℕ → List ℕ) (syncs : List ℕ → Bool) (places now : Option Places) (o n : Option Story) (call : Call) (old new : ℕ) where
   calls_still : (places : Option Places) → n ≡ o → (IsWhole call → ⊥) → IfSome places (λ p. IsCallAt place folder syncs p o call n)
   calls_still None same not_whole = tt
-  calls_still (Some p) same not_whole = record {
-    any_moment = secure_still folder syncs p (writes_of call) o n same;
-    lasts = λ whole. absurd (not_whole whole);
-    still = λ none. same;
-    alone = λ one. spares_still p.file o n same;
-    touches = inl same;
-    recovers = inl same;
-  }
+  calls_still (Some p) same not_whole = call_still place folder syncs p o n call same not_whole
 
   follows_still : (x : Option Contents) → contents_on places o ≡ x → ((c : Contents) → left_by c call ≡ c) → IfSome x (λ c. TellsOf c call)
       → IfSome x (λ c. TellsOf c call × (contents_on places o ≡ Some (left_by c call)))
@@ -173,7 +164,7 @@ some_writes journal None is = omega (arith, ap length is)
 some_writes journal (Some file) is = omega (arith, ap length is)
 
 -- and no file where that is one content
-no_file : (journal : List ℕ) (file : Option (List ℕ)) → length (writes_by journal file) ≤ 1 → file ≡ None
+pub no_file : (journal : List ℕ) (file : Option (List ℕ)) → length (writes_by journal file) ≤ 1 → file ≡ None
 no_file journal None one = refl
 no_file journal (Some file) one = absurd (omega (arith, one))
 
@@ -191,46 +182,38 @@ module _ (place folder : List ℕ → List ℕ) (syncs : List ℕ → Bool) (lea
   led_is : (f : List ℕ) → file_path ≡ f → journal_path ≡ journal → led leads file_path journal_path ≡ led leads f journal
   led_is f of_file of_journal = ap (λ q. led leads q journal_path) of_file ∙ ap (λ q. led leads f q) of_journal
 
-  module _ (o n : Option Story) (old new : ℕ) (secure : SecurePut folder syncs (led leads file_path journal_path) writes o n)
-      (alone : file_bytes ≡ None → AtAnyMoment o n (Spares (leads file_path))) (touches : TouchesOwn place (led leads file_path journal_path) o n)
-      (recovers : RecoversAt place folder syncs (led leads file_path journal_path) writes o n) where
-    -- the file is spared then
-    alone_at : (f : List ℕ) → file_path ≡ f → length writes ≤ 1 → AtAnyMoment o n (Spares (leads f))
-    alone_at f is one = subst (λ f. AtAnyMoment o n (Spares (leads f))) is (alone (no_file bytes file_bytes one))
+  module _ (o n : Option Story) (old new : ℕ) (ok : Bool) (is : IsPut place folder syncs (led leads file_path journal_path) writes ok o n) where
+    put_at : (f : List ℕ) → ArePaths (Some f) → IsPut place folder syncs (led leads f journal) writes ok o n
+    put_at f paths = subst (λ p. IsPut place folder syncs p writes ok o n) (led_is f paths.0 paths.1) is
 
-    pub put_done : (file : Option (List ℕ)) → ArePaths file → LastingPut folder syncs (led leads file_path journal_path) writes o n → CountsFailure old (put_all writes) new
-        → IsHomeCall place folder syncs (At file) (At file) o (put_all writes) n old new
-    put_done None paths lasting counts = record { same = refl; there = λ _ _. tt; counts = counts; follows = tt; calls = tt }
-    put_done (Some f) paths lasting counts =
-        let at : led leads file_path journal_path ≡ led leads f journal = led_is f paths.0 paths.1 in
-        let secure_at = subst (λ p. SecurePut folder syncs p writes o n) at secure in
-        let touches_at = subst (λ p. TouchesOwn place p o n) at touches in
-        let recovers_at = subst (λ p. RecoversAt place folder syncs p writes o n) at recovers in
-        let lasting_at = subst (λ p. LastingPut folder syncs p writes o n) at lasting in
+    call_at : (p : Places) (call : Call) → writes_of call ≡ writes → (IsWhole call → ok ≡ true) → IsPut place folder syncs p writes ok o n → IsCallAt place folder syncs p o call n
+    call_at p call is whole put = record {
+      any_moment = subst (λ writes. SecurePut folder syncs p writes o n) (sym is) put.any_moment;
+      lasts = λ all. subst (λ writes. LastingPut folder syncs p writes o n) (sym is) (put.lasts (whole all));
+      still = λ none. absurd (some_writes bytes file_bytes (sym is ∙ none));
+      alone = λ one. put.alone (subst (λ writes. length writes ≤ 1) is one);
+      touches = put.touches;
+      recovers = subst (λ writes. RecoversAt place folder syncs p writes o n) (sym is) put.recovers;
+    }
+
+    pub put_done : (file : Option (List ℕ)) → ArePaths file → ok ≡ true → CountsFailure old (put_all writes) new → IsHomeCall place folder syncs (At file) (At file) o (put_all writes) n old new
+    put_done None paths fine counts = record { same = refl; there = λ _ _. tt; counts = counts; follows = tt; calls = tt }
+    put_done (Some f) paths fine counts =
+        let put = put_at f paths in
         record {
           same = refl;
           there = λ _ read. absurd (some_writes bytes file_bytes (ap writes_of read));
           counts = counts;
-          follows = all_put folder syncs (led leads f journal) writes o n (contents_on (Some (led leads f journal)) o) refl secure_at lasting_at;
-          calls = record {
-            any_moment = secure_at;
-            lasts = λ whole. lasting_at;
-            still = λ none. absurd (some_writes bytes file_bytes none);
-            alone = alone_at f paths.0;
-            touches = touches_at;
-            recovers = recovers_at;
-          };
+          follows = all_put folder syncs (led leads f journal) writes o n (contents_on (Some (led leads f journal)) o) refl put.any_moment (put.lasts fine);
+          calls = call_at (led leads f journal) (put_all writes) refl (λ all. fine) put;
         }
 
     pub put_failed : (file : Option (List ℕ)) → ArePaths file → ((k : ℕ) → CountsFailure old (put_some writes k) new)
         → (k : ℕ) × (k ≤ length writes) × IsHomeCall place folder syncs (At file) (At file) o (put_some writes k) n old new
     put_failed None paths counts = (0, omega arith, record { same = refl; there = λ _ _. tt; counts = counts 0; follows = tt; calls = tt })
     put_failed (Some f) paths counts =
-        let at : led leads file_path journal_path ≡ led leads f journal = led_is f paths.0 paths.1 in
-        let secure_at = subst (λ p. SecurePut folder syncs p writes o n) at secure in
-        let touches_at = subst (λ p. TouchesOwn place p o n) at touches in
-        let recovers_at = subst (λ p. RecoversAt place folder syncs p writes o n) at recovers in
-        let some = some_put folder syncs (led leads f journal) writes o n (contents_on (Some (led leads f journal)) o) refl secure_at in (
+        let put = put_at f paths in
+        let some = some_put folder syncs (led leads f journal) writes o n (contents_on (Some (led leads f journal)) o) refl put.any_moment in (
           some.0,
           some.1,
           record {
@@ -238,14 +221,7 @@ module _ (place folder : List ℕ → List ℕ) (syncs : List ℕ → Bool) (lea
             there = λ _ read. absurd (some_writes bytes file_bytes (ap writes_of read));
             counts = counts some.0;
             follows = some.2;
-            calls = record {
-              any_moment = secure_at;
-              lasts = λ never. absurd never;
-              still = λ none. absurd (some_writes bytes file_bytes none);
-              alone = alone_at f paths.0;
-              touches = touches_at;
-              recovers = recovers_at;
-            };
+            calls = call_at (led leads f journal) (put_some writes some.0) refl (λ never. absurd never) put;
           },
         )
 

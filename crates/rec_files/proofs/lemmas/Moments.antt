@@ -291,9 +291,3 @@ module _ (crash : Bool) where
       journal = subst (HasLeftJournal crash sites) (sym is) (journal_made s n was.journal fresh);
       file = λ x may. was.file x (may_before crash sites.new_file s u x same may);
     }
-
-    pub alone_written : (n : ℕ) (bytes : List ℕ) (s u : State) → BeginsAsJournal bytes → length bytes ≤ 1_073_741_824 → IsAlone crash sites s → IsWriting n bytes s u → IsAlone crash sites u
-    alone_written n bytes s u begins short was writing = record {
-      journal = journal_written n bytes s u begins short was.journal writing;
-      file = λ x may. was.file x (may_unmoved crash s u sites.new_file x writing.at writing.olds may);
-    }

@@ -5,7 +5,7 @@ use Rattle.rec_disk.specs.Disk.{State, renamed, folder_synced}
 use Rattle.rec_disk.specs.Lasting.{Spares}
 use Rattle.rec_disk.specs.proving.Places.{IsSeen, Outlasts, Waits}
 use Rattle.rec_disk.proofs.lemmas.Places.{spares_itself, spares_then, spares-renamed, spares-folder_synced}
-use Rattle.rec_disk.proofs.lemmas.Places.{outlasts_still, outlasts-renamed, outlasts_stop, outlasts-folder_synced, seen_there, waits_seen, waits_still}
+use Rattle.rec_disk.proofs.lemmas.Places.{outlasts_still, outlasts-renamed, outlasts_stop, outlasts-folder_synced, seen_there, waits_seen}
 use Rattle.rec_tools.specs.Home.{Contents}
 use Rattle.rec_files.specs.OnDisk.{Places, Sites, CanSync}
 use Rattle.rec_files.specs.Succeeding.{AreApart}

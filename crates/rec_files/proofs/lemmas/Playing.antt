@@ -1,5 +1,5 @@
 -- What holds at any moment while steps are taken, by what each of them keeps.
-use Rattle.std.proofs.Common.{◌≡◌, ◌≢◌, ◌∙◌, inl, inr, ℕ, ◌+◌, Bool, true, false, List, [], ◌∷◌, length, take, take_all, drop, Option, Some, None, IsSomeAnd, refl, sym, ap, subst, arith}
+use Rattle.std.proofs.Common.{◌≡◌, ◌≢◌, ◌∙◌, inl, inr, ℕ, Bool, true, false, List, [], ◌∷◌, length, take, take_all, Option, Some, None, IsSomeAnd, refl, sym, ap, subst, arith}
 use Rattle.std.specs.Prelude.{Result, Ok, Err, IfOk, IfErr}
 use Rattle.std.specs.Result.{is_ok}
 use Rattle.std.proofs.lemmas.Bool.{false≢true}
@@ -13,9 +13,9 @@ use Rattle.rec_files.specs.declared.steps.Act.{Act}
 use Rattle.rec_files.specs.declared.steps.Act.TheVariants.{Write}
 use Rattle.rec_files.specs.declared.steps.Step.{Step}
 use Rattle.rec_files.specs.Succeeding.{IsTold}
-use Rattle.rec_files.specs.proving.Steps.{Ways, Side, Task, Numbers, side_of, Moves, Rests, Does, Acts, StepRests, StepDoes, StepNeeds, Takes, Plays, CanPlay}
+use Rattle.rec_files.specs.proving.Steps.{Ways, Side, Task, Numbers, side_of, number_of, other_than, Moves, Rests, Does, Acts, StepRests, StepDoes, StepNeeds, Takes, Plays, CanPlay}
 
-abbrev made_of : Option ℕ → Option ℕ → Numbers
+abbrev pub made_of : Option ℕ → Option ℕ → Numbers
 made_of file journal = record { file = file; journal = journal }
 
 none_moves : (R : State → Type 0) (D : State → State → Type 0) (n : Option Story) → Moves None n R D → n ≡ None
@@ -58,24 +58,25 @@ told_ok C which (Err e) result value (cause, converts, is) = ap is_ok is
 
 -- ---- one of the two
 
+both_same : (which : Which) (x y : Numbers) → number_of y (other_than which) ≡ number_of x (other_than which) → number_of y which ≡ number_of x which → y ≡ x
+both_same Base x y other own = ap (λ one. made_of one y.journal) own ∙ ap (λ one. made_of x.file one) other
+both_same Journal x y other own = ap (λ one. made_of one y.journal) other ∙ ap (λ one. made_of x.file one) own
+
 module _ (ways : Ways) (task : Task) (act : Act) (x y : Numbers) (o b : Option Story) (which : Which) where
   abbrev Of : Which → Step
   Of which = record { 0 = which; 1 = act }
-
-  same_numbers : y.file ≡ x.file → y.journal ≡ x.journal → y ≡ x
-  same_numbers file journal = ap (λ one. made_of one y.journal) file ∙ ap (λ one. made_of x.file one) journal
 
   pub takes_file : (ok : Bool) → which ≡ Base → y.journal ≡ x.journal → Acts ways (side_of task Base) act ok x.file y.file o b → Takes ways task (Of which) ok x y o b
   takes_file ok is same acts = subst (λ which. Takes ways task (Of which) ok x y o b) (sym is)
       (moves_so (λ s. (y.file ≡ x.file) × Rests ways (side_of task Base) act ok x.file s) (StepRests ways task (Of Base) ok x y)
       (Does ways (side_of task Base) act ok x.file y.file) (StepDoes ways task (Of Base) ok x y) o b
-      (λ s both. (same_numbers both.0 same, both.1)) (λ s t does. (same, does)) acts)
+      (λ s both. (both_same Base x y same both.0, both.1)) (λ s t does. (same, does)) acts)
 
   pub takes_journal : (ok : Bool) → which ≡ Journal → y.file ≡ x.file → Acts ways (side_of task Journal) act ok x.journal y.journal o b → Takes ways task (Of which) ok x y o b
   takes_journal ok is same acts = subst (λ which. Takes ways task (Of which) ok x y o b) (sym is)
       (moves_so (λ s. (y.journal ≡ x.journal) × Rests ways (side_of task Journal) act ok x.journal s) (StepRests ways task (Of Journal) ok x y)
       (Does ways (side_of task Journal) act ok x.journal y.journal) (StepDoes ways task (Of Journal) ok x y) o b
-      (λ s both. (same_numbers same both.0, both.1)) (λ s t does. (same, does)) acts)
+      (λ s both. (both_same Journal x y same both.0, both.1)) (λ s t does. (same, does)) acts)
 
   pub needs_of : (one : Which) → which ≡ one → IsTold o (StepNeeds ways task (Of which) x) → IsTold o (StepNeeds ways task (Of one) x)
   needs_of one is given = subst (λ which. IsTold o (StepNeeds ways task (Of which) x)) is given
@@ -107,13 +108,44 @@ module _ (ways : Ways) (task : Task) where
   kept_play G J Q (step ∷ steps) x s keeps given =
       (keeps.0 given, (λ y rests. kept_play G J Q steps y s (keeps.1.0 y rests) given, λ y t does. kept_play G J Q steps y t (keeps.1.1.1 y t does) given))
 
-  -- a step that looks
-  pub looked : (G : Type 0) (J Q : Numbers → State → Type 0) (step : Step) (steps : List Step) (x : Numbers) (s : State) → (G → StepNeeds ways task step x s)
-      → ((ok : Bool) (y : Numbers) (t : State) → StepDoes ways task step ok x y s t → ⊥) → Keeps G J Q steps x s → Keeps G J Q (step ∷ steps) x s
-  looked G J Q step steps x s needs never keeps = (
-    needs,
-    (λ y rests. subst (λ y. Keeps G J Q steps y s) (sym rests.0) keeps, (λ ok y t does. absurd (never ok y t does), λ y t does. absurd (never true y t does))),
+  -- what is kept for one purpose is kept for a weaker one
+  pub keeps_so : (G H : Type 0) (J K Q R : Numbers → State → Type 0) → (H → G) → ((y : Numbers) (t : State) → J y t → K y t) → ((y : Numbers) (t : State) → Q y t → R y t)
+      → (steps : List Step) (x : Numbers) (s : State) → Keeps G J Q steps x s → Keeps H K R steps x s
+  keeps_so G H J K Q R given more last [] x s keeps = last x s keeps
+  keeps_so G H J K Q R given more last (step ∷ steps) x s keeps = (
+    λ h. keeps.0 (given h),
+    (
+      λ y rests. keeps_so G H J K Q R given more last steps y s (keeps.1.0 y rests),
+      (
+        λ ok y t does. more y t (keeps.1.1.0 ok y t does),
+        λ y t does. keeps_so G H J K Q R given more last steps y t (keeps.1.1.1 y t does),
+      ),
+    ),
   )
+
+  module _ (G : Type 0) (J Q : Numbers → State → Type 0) (which : Which) (act : Act) (rest : List Step) (x : Numbers) (s : State) where
+    abbrev This : Step
+    This = record { 0 = which; 1 = act }
+
+    pub stepped : (G → StepNeeds ways task This x s) → (Rests ways (side_of task which) act true (number_of x which) s → Keeps G J Q rest x s)
+        → ((ok : Bool) (y : Numbers) (t : State) → StepDoes ways task This ok x y s t → J y t)
+        → ((y : Numbers) (t : State) → StepDoes ways task This true x y s t → Keeps G J Q rest y t) → Keeps G J Q (This ∷ rest) x s
+    stepped needs rests does after = (needs, (λ y is. subst (λ y. Keeps G J Q rest y s) (sym is.0) (rests is.1), (does, after)))
+
+    -- a step that looks
+    pub looked : (G → StepNeeds ways task This x s) → ((ok : Bool) (y : Numbers) (t : State) → StepDoes ways task This ok x y s t → ⊥) → Keeps G J Q rest x s
+        → Keeps G J Q (This ∷ rest) x s
+    looked needs never keeps = stepped needs (λ is. keeps) (λ ok y t does. absurd (never ok y t does)) (λ y t does. absurd (never true y t does))
+
+    -- one after which the numbers are as before
+    pub changed : (T : Bool → State → Type 0) → (G → StepNeeds ways task This x s)
+        → ((ok : Bool) (y : Option ℕ) (t : State) → Does ways (side_of task which) act ok (number_of x which) y s t → (y ≡ number_of x which) × T ok t)
+        → (Rests ways (side_of task which) act true (number_of x which) s → Keeps G J Q rest x s) → ((ok : Bool) (t : State) → T ok t → J x t)
+        → ((t : State) → T true t → Keeps G J Q rest x t) → Keeps G J Q (This ∷ rest) x s
+    changed T needs is rests does after =
+        let same : (ok : Bool) (y : Numbers) (t : State) → StepDoes ways task This ok x y s t → x ≡ y = λ ok y t step. sym (both_same which x y step.0 (is ok (number_of y which) t step.1).0) in
+        stepped needs rests (λ ok y t step. subst (λ y. J y t) (same ok y t step) (does ok t (is ok (number_of y which) t step.1).1))
+        (λ y t step. subst (λ y. Keeps G J Q rest y t) (same true y t step) (after t (is true (number_of y which) t step.1).1))
 
   module _ (G : Type 0) (I : State → Type 0) (J Q : Numbers → State → Type 0) (so : (y : Numbers) (t : State) → J y t → I t) where
     -- at any moment, at the end, and where no step failed
@@ -138,5 +170,3 @@ module _ (ways : Ways) (task : Task) where
           let then = kept steps ok z y (next a does.0) n after (keeps.1.1.1 z does.0 does.1) (subst (λ mid. Plays ways task steps ok z y mid n) does.2 rest) in
           (since_then I (Some a) (Some (next a does.0)) n (one_step (λ s u. I u) a does.0 (so x a.now was) (so z does.0 after)) then.0, then.1)
     ]
-
--- ---- in turn

@@ -1,7 +1,10 @@
 -- A request on a disk: its calls, and what is left at any moment of them.
 use Rattle.std.proofs.Common.{◌≡◌, ◌⊎◌, inl, inr, refl, sym, ◌∙◌, ap, subst, arith, ℕ, zero, suc, ◌≤◌, Bool, false}
 use Rattle.std.proofs.Common.{List, [], ◌∷◌, ◌++◌, length, take, length-append, append-nil, replicate, Option, Some, None, IfSome, IsSomeAnd, Result, Ok, Err}
-use Rattle.rec_disk.specs.Disk.{State, Story, Told, AtAnyMoment}
+use Rattle.std.specs.Prelude.{option_map, string_bytes}
+use Rattle.rec_disk.specs.Disk.{State, Story, Look, Told, AtAnyMoment}
+use Rattle.rec_files.specs.declared.files.DiskHome.{DiskHome}
+use Rattle.rec_files.specs.Succeeding.{HomeGoes}
 use Rattle.rec_disk.specs.Lasting.{Left, shown}
 use Rattle.rec_disk.proofs.lemmas.Moments.{told_so, told_both}
 use Rattle.rec_text.specs.declared.fault.Fault.{Fault}
@@ -21,14 +24,14 @@ use Rattle.rec_diff.specs.declared.style.DiffStyle.{DiffStyle}
 use Rattle.rec_journal.specs.declared.patch.Direction.{Direction}
 use Rattle.rec_tools.specs.Machine.{State as Machine, IsOldOrNext, Stands}
 use Rattle.rec_tools.specs.Guarantee.{StopsAreSteps}
-use Rattle.rec_files.specs.OnDisk.{Places, Shows, Holds, IsRead, IsSecure, CanSync, TouchesOwn, IsCallAt, IsHomeCall, IsWhole, writes_of, contents_on, or_empty}
-use Rattle.rec_files.specs.OnDisk.{StandsThen, SecureRequest, LastingRequest, Sites, sites_of, AreTold, CanSyncAll, IsNext}
-use Rattle.rec_files.specs.OnDisk.{Recovers, RecoversBy, RecoversAt, RecoversRequest, IsRequestAt, AreRequestsAt}
+use Rattle.rec_files.specs.OnDisk.{Places, Shows, Holds, IsRead, IsSecure, CanSync, IsCallAt, IsWhole, writes_of, contents_on, or_empty}
+use Rattle.rec_files.specs.OnDisk.{StandsThen, SecureRequest, LastingRequest, Sites, sites_of, IsNext}
+use Rattle.rec_files.specs.OnDisk.{Recovers, RecoversBy, RecoversAt, RecoversThen, RecoversRequest, IsRequestAt, AreRequestsAt, places_by}
 use Rattle.rec_files.specs.Leftovers.{IsStopBetween}
 use Rattle.rec_files.proofs.lemmas.Outcomes.{Puts, puts_left}
 use Rattle.rec_files.proofs.lemmas.Holding.{read_there}
-use Rattle.rec_files.proofs.lemmas.Steps.{some_none, told_next}
-use Rattle.rec_files.proofs.lemmas.Home.{secure_still, no_crash}
+use Rattle.rec_files.proofs.lemmas.Steps.{some_none}
+use Rattle.rec_files.proofs.lemmas.Home.{call_still, no_crash}
 use Rattle.rec_files.proofs.lemmas.Replacing.{moments_so}
 
 -- ---- reads, and one call more
@@ -146,69 +149,6 @@ take_none : (k : ℕ) → take {A = Write} k [] ≡ []
 take_none zero = refl
 take_none (suc k) = refl
 
--- ---- on a home on a disk
-
-module _ {H : Type 0} (place folder : List ℕ → List ℕ) (syncs : List ℕ → Bool) (at : H → Option Places) (story : H → Option Story) (fails : H → ℕ) (more : H → Call → H → Type 0) where
-  abbrev pub Goes : H → Call → H → Type 0
-  Goes o call n = IsHomeCall place folder syncs (at o) (at n) (story o) call (story n) (fails o) (fails n) × more o call n
-
-module _ {H : Type 0} (place folder : List ℕ → List ℕ) (syncs : List ℕ → Bool) (at : H → Option Places) (story : H → Option Story) (fails : H → ℕ) (more : H → Call → H → Type 0) (p : Places) where
-  call_at : (o n : H) (call : Call) → at o ≡ Some p → (Goes place folder syncs at story fails more) o call n → IsCallAt place folder syncs p (story o) call (story n)
-  call_at o n call is goes = subst (λ x. IfSome x (λ p. IsCallAt place folder syncs p (story o) call (story n))) is goes.0.calls
-
-  -- the contents are read as they are
-  tell_all : (calls : List Call) (o n : H) (c : Contents) → at o ≡ Some p → contents_on (Some p) (story o) ≡ Some c → Went (Goes place folder syncs at story fails more) o calls n → TellAll c calls
-  tell_all [] o n c is holds went = tt
-  tell_all (call ∷ calls) o n c is holds (mid, goes, went) =
-      let told : TellsOf c call × (contents_on (at mid) (story mid) ≡ Some (left_by c call)) =
-      subst (λ x. IfSome x (λ c. TellsOf c call × (contents_on (at mid) (story mid) ≡ Some (left_by c call)))) (ap (λ x. contents_on x (story o)) is ∙ holds) goes.0.follows in
-      let still : at mid ≡ Some p = goes.0.same ∙ is in
-      (told.0, tell_all calls mid n (left_by c call) still (sym (ap (λ x. contents_on x (story mid)) still) ∙ told.1) went)
-
-  -- reads change nothing
-  read_still : (o mid : H) (call : Call) → at o ≡ Some p → (Goes place folder syncs at story fails more) o call mid → IsGot call → story mid ≡ story o
-  read_still o mid call is goes read = (call_at o mid call is goes).still (got_writes call read)
-
-  went_still : (calls : List Call) (o n : H) → at o ≡ Some p → Went (Goes place folder syncs at story fails more) o calls n → ReadsFirst calls → last_writes calls ≡ [] → story n ≡ story o
-  went_still [] o n is went reads none = ap story went
-  went_still (call ∷ []) o n is (mid, goes, went) reads none = ap story went ∙ (call_at o mid call is goes).still none
-  went_still (call ∷ (next ∷ calls)) o n is (mid, goes, went) reads none =
-      went_still (next ∷ calls) mid n (goes.0.same ∙ is) went reads.1 none ∙ read_still o mid call is goes reads.0
-
-  module _ (crash : Bool) (c : Contents) (can : CanSync folder syncs crash p) where
-    went_secure : (calls : List Call) (o n : H) → at o ≡ Some p → Went (Goes place folder syncs at story fails more) o calls n → ReadsFirst calls → Told (story o) (IsRead p c)
-        → AtAnyMoment (story o) (story n) (IsSecure crash p c (last_writes calls))
-    went_secure [] o n is went reads told = secure_still folder syncs p [] (story o) (story n) (ap story went) crash c can told
-    went_secure (call ∷ []) o n is (mid, goes, went) reads told =
-        subst (λ n. AtAnyMoment (story o) (story n) (IsSecure crash p c (writes_of call))) (sym went) ((call_at o mid call is goes).any_moment crash c can told)
-    went_secure (call ∷ (next ∷ calls)) o n is (mid, goes, went) reads told =
-        let same = read_still o mid call is goes reads.0 in
-        subst (λ x. AtAnyMoment x (story n) (IsSecure crash p c (last_writes (next ∷ calls)))) same
-        (went_secure (next ∷ calls) mid n (goes.0.same ∙ is) went reads.1 (told_next (IsRead p c) (story o) (story mid) same told))
-
-    went_lasts : (calls : List Call) (o n : H) → at o ≡ Some p → Went (Goes place folder syncs at story fails more) o calls n → ReadsFirst calls → IsWholeLast calls → Told (story o) (IsRead p c)
-        → Told (story n) (Holds crash p (written c (last_writes calls)))
-    went_lasts [] o n is went reads whole told = absurd whole
-    went_lasts (call ∷ []) o n is (mid, goes, went) reads whole told =
-        subst (λ n. Told (story n) (Holds crash p (written c (writes_of call)))) (sym went) ((call_at o mid call is goes).lasts whole crash c can told)
-    went_lasts (call ∷ (next ∷ calls)) o n is (mid, goes, went) reads whole told =
-        went_lasts (next ∷ calls) mid n (goes.0.same ∙ is) went reads.1 whole (told_next (IsRead p c) (story o) (story mid) (read_still o mid call is goes reads.0) told)
-
-  -- and one call more touches what is the home's own
-  went_touches : (calls : List Call) (o n : H) → at o ≡ Some p → Went (Goes place folder syncs at story fails more) o calls n → ReadsFirst calls → TouchesOwn place p (story o) (story n)
-  went_touches [] o n is went reads = inl (ap story went)
-  went_touches (call ∷ []) o n is (mid, goes, went) reads = subst (λ n. TouchesOwn place p (story o) (story n)) (sym went) (call_at o mid call is goes).touches
-  went_touches (call ∷ (next ∷ calls)) o n is (mid, goes, went) reads =
-      subst (λ x. TouchesOwn place p x (story n)) (read_still o mid call is goes reads.0) (went_touches (next ∷ calls) mid n (goes.0.same ∙ is) went reads.1)
-
-  -- and recovers
-  went_recovers : (calls : List Call) (o n : H) → at o ≡ Some p → Went (Goes place folder syncs at story fails more) o calls n → ReadsFirst calls
-      → RecoversAt place folder syncs p (last_writes calls) (story o) (story n)
-  went_recovers [] o n is went reads = inl (ap story went)
-  went_recovers (call ∷ []) o n is (mid, goes, went) reads = subst (λ n. RecoversAt place folder syncs p (writes_of call) (story o) (story n)) (sym went) (call_at o mid call is goes).recovers
-  went_recovers (call ∷ (next ∷ calls)) o n is (mid, goes, went) reads =
-      subst (λ x. RecoversAt place folder syncs p (last_writes (next ∷ calls)) x (story n)) (read_still o mid call is goes reads.0) (went_recovers (next ∷ calls) mid n (goes.0.same ∙ is) went reads.1)
-
 -- ---- what is put can be told to be left over
 
 recovers_puts : (folder : List ℕ → List ℕ) (syncs : List ℕ → Bool) (sites : Sites) (journal : List ℕ) (file : Option (List ℕ)) (o n : Option Story)
@@ -237,10 +177,7 @@ is_next place p c path_file path_journal journal (Some f) s read at between =
     next_there s.bytes (s.at (place path_file)) c.file f journal (ap (λ q. shown s.bytes (s.at q)) at ∙ (read_there p c s read).0) between
 
 puts_recover : (place folder : List ℕ → List ℕ) (syncs : List ℕ → Bool) (p : Places) (c : Contents) (writes : List Write) (o n : Option Story)
-    → Told o (IsRead p c) → Puts c writes → RecoversAt place folder syncs p writes o n
-    → (n ≡ o) ⊎ ((file journal : List ℕ) × Told o (λ s. (place file ≡ p.file) × (place journal ≡ p.journal))
-    × ((crash : Bool) → CanSyncAll folder syncs crash (sites_of place file journal) → Told o (AreTold crash folder (sites_of place file journal))
-    → AtAnyMoment o n (λ s u. AreTold crash folder (sites_of place file journal) u)))
+    → Told o (IsRead p c) → Puts c writes → RecoversAt place folder syncs p writes o n → RecoversThen place folder syncs p o n
 puts_recover place folder syncs p c writes o n read puts (inl same) = inl same
 puts_recover place folder syncs p c writes o n read puts (inr (file, journal, at, recovers)) =
     let sites = sites_of place file journal in
@@ -302,132 +239,159 @@ module _ (laws : StopsAreSteps) (request : Request) (answer : Answer) (printed :
         | inr some ↦ inr (then_left calls known left some)
       ]
 
-module _ {H : Type 0} (place folder : List ℕ → List ℕ) (syncs : List ℕ → Bool) (at : H → Option Places) (story : H → Option Story) (fails : H → ℕ)
-    (more : H → Call → H → Type 0) (laws : StopsAreSteps) (request : Request) (answer : Answer)
-    (calls : List Call) (printed : Printed) (o n : H) (done : Attempts (Goes place folder syncs at story fails more) o n (asked_of request) answer calls printed) where
-  does_some : Writes done.1.0 (asked_of request) answer printed calls
-  does_some = does_writes done.1.0 (asked_of request) answer printed calls (done.2 done.1.0 done.1.1)
+-- calls that read both contents change nothing
+reads_still : (read : Result (List ℕ × List ℕ) Fault) (calls : List Call) → AreRead read calls → AreCalls [] ⊥ calls
+reads_still (Ok (file, journal)) calls e =
+    subst (AreCalls [] ⊥) (sym e) (gots_alone (record { file = file; journal = journal }) (TheFile ∷ TheJournal ∷ []) ⊥)
+reads_still (Err fault) calls stops = stopped (TheFile ∷ TheJournal ∷ []) calls fault ⊥ stops
 
-  module _ (p : Places) (is : at o ≡ Some p) (crash : Bool) (c : Contents) (can : CanSync folder syncs crash p) where
-    secure_calls : Told (story o) (IsRead p c) → AtAnyMoment (story o) (story n) (IsSecure crash p c (last_writes calls))
-    secure_calls told = went_secure place folder syncs at story fails more p crash c can calls o n is done.0 does_some.are.reads told
+-- ---- on a home on a disk
 
-    by_story : (s : Machine) → Stands c s → IsRegular c.journal → (x : Option Story) → story o ≡ x → Told x (IsRead p c) → Told (story o) (IsRead p c)
-        → AtAnyMoment (story o) (story n) (StandsThen crash p s (asked_of request))
-    by_story s stands regular None e told_x told =
-        none_any (IsSecure crash p c (last_writes calls)) (StandsThen crash p s (asked_of request)) (story o) (story n) e (secure_calls told)
-    by_story s stands regular (Some a) e read told =
-        let there : contents_on (Some p) (story o) ≡ Some c = ap (contents_on (Some p)) e ∙ read in
-        let known = does_writes c (asked_of request) answer printed calls (done.2 c (tell_all place folder syncs at story fails more p calls o n c is there done.0)) in
-        moments_so (IsSecure crash p c (last_writes calls)) (StandsThen crash p s (asked_of request)) (story o) (story n)
-        (λ before u secure. then_stands laws request answer printed p crash c s stands regular calls known before u secure) (secure_calls told)
+module _ {R D F S : Type 0} (place leads : List ℕ → List ℕ) (link : List ℕ → Option (List ℕ)) (folder : List ℕ → List ℕ) (syncs : List ℕ → Bool) (regular : ℕ → Bool) (number : F → ℕ)
+    (tells : S → Option Look) (story : D → Option Story) (works : D → Type 0) where
+  abbrev Go : DiskHome R D F S → Call → DiskHome R D F S → Type 0
+  Go = HomeGoes place leads link folder syncs regular number tells story works
 
-  secure_at : (x : Option Places) → at o ≡ x → IfSome x (λ p. SecureRequest folder syncs p (asked_of request) (story o) (story n))
-  secure_at None e = tt
-  secure_at (Some p) e = λ crash c s can told stands regular. by_story p e crash c can s stands regular (story o) refl told told
+  abbrev at : DiskHome R D F S → Option Places
+  at home = places_by leads (option_map string_bytes home.file) (string_bytes home.journal)
 
-  pub request_secure : IfSome (at o) (λ p. SecureRequest folder syncs p (asked_of request) (story o) (story n))
-  request_secure = secure_at (at o) refl
+  abbrev told : DiskHome R D F S → Option Story
+  told home = story home.disk
 
-  lasts_at : (x : Option Places) → at o ≡ x → IfSome x (λ p. (answer ≡ Err StoreFailed) ⊎ LastingRequest folder syncs p (story o) (story n))
-  lasts_at None e = tt
-  lasts_at (Some p) e =
-      elim does_some.are.is_whole [
-        | inl none ↦ inr (inl (went_still place folder syncs at story fails more p calls o n e done.0 does_some.are.reads (does_some.are.writes_are ∙ none)))
-        | inr (inl whole) ↦ inr (inr (λ crash c can told. told_so (Holds crash p (written c (last_writes calls))) (λ u. (d : Contents) × Holds crash p d u) (story n)
-            (λ u holds. (written c (last_writes calls), holds)) (went_lasts place folder syncs at story fails more p crash c can calls o n e done.0 does_some.are.reads whole told)))
-        | inr (inr failed) ↦ inl failed
-      ]
-
-  pub request_lasts : IfSome (at o) (λ p. (answer ≡ Err StoreFailed) ⊎ LastingRequest folder syncs p (story o) (story n))
-  request_lasts = lasts_at (at o) refl
-
-  touches_at : (x : Option Places) → at o ≡ x → IfSome x (λ p. TouchesOwn place p (story o) (story n))
-  touches_at None e = tt
-  touches_at (Some p) e = went_touches place folder syncs at story fails more p calls o n e done.0 does_some.are.reads
-
-  pub request_touches : IfSome (at o) (λ p. TouchesOwn place p (story o) (story n))
-  request_touches = touches_at (at o) refl
-
-  recovers_by_outcome : (p : Places) → at o ≡ Some p → (c : Contents) → (known : Writes c (asked_of request) answer printed calls) → Told (story o) (IsRead p c) → IsRegular c.journal
-      → (known.writes ≡ []) ⊎ ((outcome : Outcome) × IsRequestOutcome c (asked_of request) (Ok outcome) × (known.writes ≡ outcome.writes))
-      → RecoversAt place folder syncs p known.writes (story o) (story n)
-      → (story n ≡ story o) ⊎ ((file journal : List ℕ) × Told (story o) (λ s. (place file ≡ p.file) × (place journal ≡ p.journal))
-      × ((crash : Bool) → CanSyncAll folder syncs crash (sites_of place file journal) → Told (story o) (AreTold crash folder (sites_of place file journal))
-      → AtAnyMoment (story o) (story n) (λ s u. AreTold crash folder (sites_of place file journal) u)))
-  recovers_by_outcome p e c known read regular (inl none) by =
-      inl (went_still place folder syncs at story fails more p calls o n e done.0 known.are.reads (known.are.writes_are ∙ none))
-  recovers_by_outcome p e c known read regular (inr (outcome, is_outcome, is)) by =
-      elim (puts_left c (asked_of request) outcome regular is_outcome) [
-        | inl none ↦ inl (went_still place folder syncs at story fails more p calls o n e done.0 known.are.reads (known.are.writes_are ∙ is ∙ none))
-        | inr puts ↦ puts_recover place folder syncs p c outcome.writes (story o) (story n) read puts (subst (λ writes. RecoversAt place folder syncs p writes (story o) (story n)) is by)
-      ]
-
-  recovers_story : (p : Places) → at o ≡ Some p → (c : Contents) → IsRegular c.journal → (x : Option Story) → story o ≡ x → Told x (IsRead p c) → Told (story o) (IsRead p c)
-      → (story n ≡ story o) ⊎ ((file journal : List ℕ) × Told (story o) (λ s. (place file ≡ p.file) × (place journal ≡ p.journal))
-      × ((crash : Bool) → CanSyncAll folder syncs crash (sites_of place file journal) → Told (story o) (AreTold crash folder (sites_of place file journal))
-      → AtAnyMoment (story o) (story n) (λ s u. AreTold crash folder (sites_of place file journal) u)))
-  recovers_story p e c regular None is told_x told = inl (none_still (IsSecure false p c (last_writes calls)) (story o) (story n) is (secure_calls p e false c (no_crash folder syncs p) told))
-  recovers_story p e c regular (Some a) is read told =
-      let there : contents_on (Some p) (story o) ≡ Some c = ap (contents_on (Some p)) is ∙ read in
-      let known = does_writes c (asked_of request) answer printed calls (done.2 c (tell_all place folder syncs at story fails more p calls o n c e there done.0)) in
-      recovers_by_outcome p e c known told regular known.come
-      (subst (λ writes. RecoversAt place folder syncs p writes (story o) (story n)) known.are.writes_are (went_recovers place folder syncs at story fails more p calls o n e done.0 known.are.reads))
-
-  recovers_at : (x : Option Places) → at o ≡ x → IfSome x (λ p. RecoversRequest place folder syncs p (story o) (story n))
-  recovers_at None e = tt
-  recovers_at (Some p) e = λ c told regular. recovers_story p e c regular (story o) refl told told
-
-  pub request_recovers : IfSome (at o) (λ p. RecoversRequest place folder syncs p (story o) (story n))
-  request_recovers = recovers_at (at o) refl
-
-  -- all of it
-  pub request_at : (p : Places) → at o ≡ Some p → IsRequestAt place folder syncs p (asked_of request) answer (story o) (story n)
-  request_at p e = record {
-    any_moment = secure_at (Some p) e;
-    lasting = lasts_at (Some p) e;
-    touches = touches_at (Some p) e;
-    recovers = recovers_at (Some p) e;
-  }
-
--- ---- one request after another
-
-module _ {H : Type 0} (place folder : List ℕ → List ℕ) (syncs : List ℕ → Bool) (at : H → Option Places) (story : H → Option Story) (fails : H → ℕ) (more : H → Call → H → Type 0) where
   -- the paths stay
-  went_same : (calls : List Call) (o n : H) → Went (Goes place folder syncs at story fails more) o calls n → at n ≡ at o
+  went_same : (calls : List Call) (o n : DiskHome R D F S) → Went Go o calls n → at n ≡ at o
   went_same [] o n went = ap at went
   went_same (call ∷ calls) o n (mid, goes, went) = went_same calls mid n went ∙ goes.0.same
 
-  module _ (laws : StopsAreSteps) (request : Request) (p : Places) where
-    all_at : (answers : List Answer) (o n : H) (calls : List Call) (printed : Printed) → at o ≡ Some p
-        → AttemptsAll (Goes place folder syncs at story fails more) o n (replicate (length answers) request) answers calls printed
-        → AreRequestsAt place folder syncs p (asked_of request) answers (story o) (story n)
-    all_at [] o n calls printed e done = ap story done.0
-    all_at (answer ∷ answers) o n calls printed e (mid, now, later, first, rest, are, parts, tried, tried_later) = (
-      story mid,
-      request_at place folder syncs at story fails more laws request answer now first o mid tried p e,
-      all_at answers mid n later rest (went_same now o mid tried.0 ∙ e) tried_later,
-    )
+  module _ (p : Places) where
+    abbrev CallAt : DiskHome R D F S → Call → DiskHome R D F S → Type 0
+    CallAt o call n = IsCallAt place folder syncs p (told o) call (told n)
 
-  pub moves_at : (laws : StopsAreSteps) (direction : Direction) (number : ℕ) (o n : H) (x : Option Places) → at o ≡ x
-      → (answers : List Answer) (calls : List Call) (printed : Printed)
-      → AttemptsAll (Goes place folder syncs at story fails more) o n (moves_through direction number answers) answers calls printed
-      → IfSome x (λ p. AreRequestsAt place folder syncs p (changing (change_of (move_through direction number))) answers (story o) (story n))
-  moves_at laws direction number o n None e answers calls printed done = tt
-  moves_at laws direction number o n (Some p) e answers calls printed done =
-      all_at laws (Changes (move_through direction number)) p answers o n calls printed e done
+    call_at : (o n : DiskHome R D F S) (call : Call) → at o ≡ Some p → Go o call n → CallAt o call n
+    call_at o n call is goes = subst (λ x. IfSome x (λ p. IsCallAt place folder syncs p (told o) call (told n))) is goes.0.calls
+
+    -- the contents are read as they are
+    tell_all : (calls : List Call) (o n : DiskHome R D F S) (c : Contents) → at o ≡ Some p → contents_on (Some p) (told o) ≡ Some c → Went Go o calls n → TellAll c calls
+    tell_all [] o n c is holds went = tt
+    tell_all (call ∷ calls) o n c is holds (mid, goes, went) =
+        let follows : TellsOf c call × (contents_on (at mid) (told mid) ≡ Some (left_by c call)) =
+        subst (λ x. IfSome x (λ c. TellsOf c call × (contents_on (at mid) (told mid) ≡ Some (left_by c call)))) (ap (λ x. contents_on x (told o)) is ∙ holds) goes.0.follows in
+        let still : at mid ≡ Some p = goes.0.same ∙ is in
+        (follows.0, tell_all calls mid n (left_by c call) still (sym (ap (λ x. contents_on x (told mid)) still) ∙ follows.1) went)
+
+    -- reads and one call more are as that call
+    pub record IsOne (calls : List Call) (o n : DiskHome R D F S) : Type 0 where
+      pub call : Call
+      pub writes : writes_of call ≡ last_writes calls
+      pub whole : IsWholeLast calls → IsWhole call
+      pub is : CallAt o call n
+
+    went_one : (calls : List Call) (o n : DiskHome R D F S) → at o ≡ Some p → Went Go o calls n → ReadsFirst calls → IsOne calls o n
+    went_one [] o n is went reads = record {
+      call = lacked TheFile;
+      writes = refl;
+      whole = λ never. never;
+      is = call_still place folder syncs p (told o) (told n) (lacked TheFile) (ap told went) (λ never. never);
+    }
+    went_one (call ∷ []) o n is (mid, goes, went) reads =
+        record { call = call; writes = refl; whole = λ whole. whole; is = subst (λ n. CallAt o call n) (sym went) (call_at o mid call is goes) }
+    went_one (call ∷ (next ∷ calls)) o n is (mid, goes, went) reads =
+        let one = went_one (next ∷ calls) mid n (goes.0.same ∙ is) went reads.1 in
+        record {
+          call = one.call;
+          writes = one.writes;
+          whole = one.whole;
+          is = subst (λ x. IsCallAt place folder syncs p x one.call (told n)) ((call_at o mid call is goes).still (got_writes call reads.0)) one.is;
+        }
+
+    went_still : (calls : List Call) (o n : DiskHome R D F S) → at o ≡ Some p → Went Go o calls n → ReadsFirst calls → last_writes calls ≡ [] → told n ≡ told o
+    went_still calls o n is went reads none = let one = went_one calls o n is went reads in one.is.still (one.writes ∙ none)
+
+    module _ (laws : StopsAreSteps) (request : Request) (answer : Answer) (calls : List Call) (printed : Printed) (o n : DiskHome R D F S) (done : Attempts Go o n (asked_of request) answer calls printed)
+        (e : at o ≡ Some p) where
+      does_some : Writes done.1.0 (asked_of request) answer printed calls
+      does_some = does_writes done.1.0 (asked_of request) answer printed calls (done.2 done.1.0 done.1.1)
+
+      one : IsOne calls o n
+      one = went_one calls o n e done.0 does_some.are.reads
+
+      nothing_written : last_writes calls ≡ [] → told n ≡ told o
+      nothing_written none = one.is.still (one.writes ∙ none)
+
+      does_known : (c : Contents) (x : Option Story) → told o ≡ x → Told x (IsRead p c) → (x ≡ None) ⊎ Writes c (asked_of request) answer printed calls
+      does_known c None is read = inl refl
+      does_known c (Some a) is read =
+          inr (does_writes c (asked_of request) answer printed calls (done.2 c (tell_all calls o n c e (ap (contents_on (Some p)) is ∙ read) done.0)))
+
+      secure_calls : (crash : Bool) (c : Contents) → CanSync folder syncs crash p → Told (told o) (IsRead p c) → AtAnyMoment (told o) (told n) (IsSecure crash p c (last_writes calls))
+      secure_calls crash c can read = subst (λ writes. AtAnyMoment (told o) (told n) (IsSecure crash p c writes)) one.writes (one.is.any_moment crash c can read)
+
+      request_secure : SecureRequest folder syncs p (asked_of request) (told o) (told n)
+      request_secure crash c s can read stands regular =
+          elim (does_known c (told o) refl read) [
+            | inl none ↦ none_any (IsSecure crash p c (last_writes calls)) (StandsThen crash p s (asked_of request)) (told o) (told n) none (secure_calls crash c can read)
+            | inr known ↦ moments_so (IsSecure crash p c (last_writes calls)) (StandsThen crash p s (asked_of request)) (told o) (told n)
+                (λ before u secure. then_stands laws request answer printed p crash c s stands regular calls known before u secure) (secure_calls crash c can read)
+          ]
+
+      request_lasts : (answer ≡ Err StoreFailed) ⊎ LastingRequest folder syncs p (told o) (told n)
+      request_lasts =
+          elim does_some.are.is_whole [
+            | inl none ↦ inr (inl (nothing_written (does_some.are.writes_are ∙ none)))
+            | inr (inl whole) ↦ inr (inr (λ crash c can read. told_so (Holds crash p (written c (writes_of one.call))) (λ u. (d : Contents) × Holds crash p d u) (told n)
+                (λ u holds. (written c (writes_of one.call), holds)) (one.is.lasts (one.whole whole) crash c can read)))
+            | inr (inr failed) ↦ inl failed
+          ]
+
+      recovers_known : (c : Contents) → (known : Writes c (asked_of request) answer printed calls) → Told (told o) (IsRead p c) → IsRegular c.journal
+          → (known.writes ≡ []) ⊎ ((outcome : Outcome) × IsRequestOutcome c (asked_of request) (Ok outcome) × (known.writes ≡ outcome.writes))
+          → RecoversThen place folder syncs p (told o) (told n)
+      recovers_known c known read regular (inl none) = inl (nothing_written (known.are.writes_are ∙ none))
+      recovers_known c known read regular (inr (outcome, is_outcome, is)) =
+          elim (puts_left c (asked_of request) outcome regular is_outcome) [
+            | inl none ↦ inl (nothing_written (known.are.writes_are ∙ is ∙ none))
+            | inr puts ↦ puts_recover place folder syncs p c outcome.writes (told o) (told n) read puts
+                (subst (λ writes. RecoversAt place folder syncs p writes (told o) (told n)) (one.writes ∙ known.are.writes_are ∙ is) one.is.recovers)
+          ]
+
+      request_recovers : RecoversRequest place folder syncs p (told o) (told n)
+      request_recovers c read regular =
+          elim (does_known c (told o) refl read) [
+            | inl none ↦ inl (none_still (IsSecure false p c (last_writes calls)) (told o) (told n) none (secure_calls false c (no_crash folder syncs p) read))
+            | inr known ↦ recovers_known c known read regular known.come
+          ]
+
+      -- all of it
+      request_at : IsRequestAt place folder syncs p (asked_of request) answer (told o) (told n)
+      request_at = record { any_moment = request_secure; lasting = request_lasts; touches = one.is.touches; recovers = request_recovers }
+
+  pub request_on : (laws : StopsAreSteps) (request : Request) (answer : Answer) (calls : List Call) (printed : Printed) (o n : DiskHome R D F S)
+      → Attempts Go o n (asked_of request) answer calls printed → (x : Option Places) → at o ≡ x
+      → IfSome x (λ p. IsRequestAt place folder syncs p (asked_of request) answer (told o) (told n))
+  request_on laws request answer calls printed o n done None e = tt
+  request_on laws request answer calls printed o n done (Some p) e = request_at p laws request answer calls printed o n done e
+
+  -- ---- one request after another
+
+  all_at : (laws : StopsAreSteps) (request : Request) (p : Places) (answers : List Answer) (o n : DiskHome R D F S) (calls : List Call) (printed : Printed) → at o ≡ Some p
+      → AttemptsAll Go o n (replicate (length answers) request) answers calls printed → AreRequestsAt place folder syncs p (asked_of request) answers (told o) (told n)
+  all_at laws request p [] o n calls printed e done = ap told done.0
+  all_at laws request p (answer ∷ answers) o n calls printed e (mid, now, later, first, rest, are, parts, tried, tried_later) = (
+    told mid,
+    request_at p laws request answer now first o mid tried e,
+    all_at laws request p answers mid n later rest (went_same now o mid tried.0 ∙ e) tried_later,
+  )
+
+  pub moves_at : (laws : StopsAreSteps) (direction : Direction) (count : ℕ) (o n : DiskHome R D F S) (x : Option Places) → at o ≡ x → (answers : List Answer) (calls : List Call) (printed : Printed)
+      → AttemptsAll Go o n (moves_through direction count answers) answers calls printed
+      → IfSome x (λ p. AreRequestsAt place folder syncs p (changing (change_of (move_through direction count))) answers (told o) (told n))
+  moves_at laws direction count o n None e answers calls printed done = tt
+  moves_at laws direction count o n (Some p) e answers calls printed done = all_at laws (Changes (move_through direction count)) p answers o n calls printed e done
 
   -- ---- a dry run of moves
 
-  -- calls that read both contents change nothing
-  reads_still : (read : Result (List ℕ × List ℕ) Fault) (calls : List Call) → AreRead read calls → AreCalls [] ⊥ calls
-  reads_still (Ok (file, journal)) calls e =
-      subst (AreCalls [] ⊥) (sym e) (gots_alone (record { file = file; journal = journal }) (TheFile ∷ TheJournal ∷ []) ⊥)
-  reads_still (Err fault) calls stops = stopped (TheFile ∷ TheJournal ∷ []) calls fault ⊥ stops
-
-  pub previews_still : (style : DiffStyle) (direction : Direction) (number : ℕ) (o n : H) (x : Option Places) → at o ≡ x → (answers : List Answer) (printed : Printed)
-      → PreviewsThrough (Goes place folder syncs at story fails more) o n style direction number answers printed → IfSome x (λ p. story n ≡ story o)
-  previews_still style direction number o n None e answers printed done = tt
-  previews_still style direction number o n (Some p) e answers printed (read, calls, went, are, previews) =
-      let known = reads_still read calls are in
-      went_still place folder syncs at story fails more p calls o n e went known.reads known.writes_are
+  pub previews_still : (style : DiffStyle) (direction : Direction) (count : ℕ) (o n : DiskHome R D F S) (x : Option Places) → at o ≡ x → (answers : List Answer) (printed : Printed)
+      → PreviewsThrough Go o n style direction count answers printed → IfSome x (λ p. told n ≡ told o)
+  previews_still style direction count o n None e answers printed done = tt
+  previews_still style direction count o n (Some p) e answers printed (read, calls, went, are, previews) =
+      let known = reads_still read calls are in went_still p calls o n e went known.reads known.writes_are

@@ -1,33 +1,25 @@
 -- What several calls leave, one after another.
 use Rattle.std.proofs.Common.{◌≡◌, ◌≢◌, inl, inr, refl, sym, ◌∙◌, ap, subst, arith, ℕ, ◌≤◌, ◌+◌, Bool, true, false}
-use Rattle.std.proofs.Common.{List, [], ◌∷◌, ◌++◌, length, take, length-take, length-append, take_all, Option, Some, None, IsSomeAnd, Result, Ok, Err, OnOk, IfOk}
+use Rattle.std.proofs.Common.{List, length, take, length-take, take_all, Option, Some, None, IfSome, IsSomeAnd, Result, Ok, Err, OnOk, IfOk}
 use Rattle.std.proofs.lemmas.Bool.{false≢true}
-use Rattle.std.specs.Result.{is_ok}
-use Rattle.rec_disk.specs.Disk.{State, Story, next, Goes, Told, Ends, AtAnyMoment, Look, SaysOf, IsLookAt, renamed, folder_synced}
+use Rattle.rec_disk.specs.Disk.{State, Story, Told, renamed, folder_synced}
 use Rattle.rec_disk.specs.Lasting.{Spares}
-use Rattle.rec_disk.specs.proving.Places.{StaysSafe, IsSettled, Avoids, Waits, IsUnmoved}
-use Rattle.rec_disk.proofs.lemmas.Places.{spares_itself, spares-folder_synced, settled-synced, settled_stop, waits_still, avoids_still}
-use Rattle.rec_disk.proofs.lemmas.Moments.{by_step, told_step, told_always, told_kept, told_both, told_so}
-use Rattle.rec_disk.proofs.lemmas.Calls.{avoids_unmoved}
-use Rattle.rec_files.specs.OnDisk.{Sites}
-use Rattle.rec_files.specs.Succeeding.{AreApart}
-use Rattle.rec_files.specs.proving.Replacing.{IsSyncing, IsMadeAt, AreMade, IsPlacing, IsPlaced, SparesBut}
+use Rattle.rec_disk.specs.proving.Places.{StaysSafe, IsSettled}
+use Rattle.rec_disk.proofs.lemmas.Places.{spares_itself, spares-folder_synced, settled-synced, settled_stop}
+use Rattle.rec_disk.proofs.lemmas.Moments.{told_so}
+use Rattle.rec_files.specs.proving.Replacing.{IsSyncing, IsPlacing, IsPlaced}
 
 pub on_ok : {X E : Type 0} (result : Result X E) (P : Type 0) → P → OnOk result P
 on_ok (Ok x) P holds = holds
 on_ok (Err e) P holds = tt
 
-pub on_ok_if : {X E : Type 0} (result : Result X E) (P : Type 0) → (is_ok result ≡ true → P) → OnOk result P
-on_ok_if (Ok x) P holds = holds refl
-on_ok_if (Err e) P holds = tt
-
-pub on_ok_so : {X E : Type 0} (result : Result X E) (P Q : Type 0) → (P → Q) → OnOk result P → OnOk result Q
-on_ok_so (Ok x) P Q so holds = so holds
-on_ok_so (Err e) P Q so holds = tt
-
 pub if_ok_so : {X E : Type 0} (result : Result X E) (P Q : X → Type 0) → ((x : X) → P x → Q x) → IfOk result P → IfOk result Q
 if_ok_so (Ok x) P Q so holds = so x holds
 if_ok_so (Err e) P Q so holds = tt
+
+pub if_some_so : {X : Type 0} (x : Option X) (P Q : X → Type 0) → ((x : X) → P x → Q x) → IfSome x P → IfSome x Q
+if_some_so None P Q so holds = tt
+if_some_so (Some x) P Q so holds = so x holds
 
 abbrev IsThere : {X : Type 0} → Option X → Type 0
 IsThere None = ⊥
@@ -65,21 +57,11 @@ module _ (p : List ℕ) (folder : List ℕ → List ℕ) (syncs : List ℕ → B
   syncing s t (inl is) = subst (Spares p s) (sym is) (spares-folder_synced p s folder d)
   syncing s t (inr (is, unsynced)) = subst (Spares p s) (sym is) (spares_itself p s)
 
-  pub syncing_spares : {X E : Type 0} (o n : Option Story) (result : Result X E) → Goes o n result (IsSyncing folder syncs d) → AtAnyMoment o n (Spares p)
-  syncing_spares o n result goes =
-      by_step (Spares p) (IsSyncing folder syncs d) (λ s. Unit {0}) o n result (spares_itself p) (λ s t u step. syncing s t step) (told_always (λ s. Unit {0}) o (λ s. tt)) goes
-
   pub settled : (crash : Bool) (s t : State) → folder p ≡ d → (crash ≡ true → syncs d ≡ true) → StaysSafe true s (s.at p) → IsSyncing folder syncs d s t → IsSettled crash p t
   settled crash s t is synced safe (inl made) =
       subst (IsSettled crash p) (ap (folder_synced folder s) is ∙ sym made) (settled-synced folder crash p s safe)
   settled true s t is synced safe (inr (same, isnt)) = absurd (false≢true (sym isnt ∙ synced refl))
   settled false s t is synced safe (inr (same, isnt)) = settled_stop p t
-
--- ---- new files
-
--- and then a second one is made beside it
-pub longer_than : (wj wf : List ℕ) → (0 ∷ (wj ++ wf) ≢ wj) × (0 ∷ (wj ++ wf) ≢ wf)
-longer_than wj wf = (λ e. omega (arith, ap length e, length-append wj wf), λ e. omega (arith, ap length e, length-append wj wf))
 
 -- ---- a rename and a sync of its folder
 
@@ -94,17 +76,3 @@ module _ (folder : List ℕ → List ℕ) (syncs : List ℕ → Bool) (w q : Lis
   pub placed_after : (s t u : State) → Renamed w q s t → IsSyncing folder syncs (folder q) t u → IsPlaced folder syncs w q s u
   placed_after s t u is (inl synced) = inl (synced ∙ ap (λ (v : State). folder_synced folder v (folder q)) is)
   placed_after s t u is (inr (same, unsynced)) = inr (same ∙ is, unsynced)
-
-  module _ {Y E : Type 0} where
-    second : (a : Story) (t : State) (c : Option Story) (result : Result Y E) → Renamed w q a.now t → Goes (Some (next a t)) c result (IsSyncing folder syncs (folder q))
-        → AtAnyMoment (Some a) c (IsPlacing folder w q)
-    second a t c (Ok y) is (u, synced, told) =
-        subst (λ c. AtAnyMoment (Some a) c (IsPlacing folder w q)) (sym told)
-        (synced_after a.now t u is synced, (t ∷ a.now ∷ [], refl, (inr (inl is), (inl refl, tt))))
-    second a t c (Err e) is (inl same) =
-        subst (λ c. AtAnyMoment (Some a) c (IsPlacing folder w q)) (sym same) (inr (inl is), (a.now ∷ [], refl, (inl refl, tt)))
-    second a t c (Err e) is (inr (u, synced, told)) =
-        subst (λ c. AtAnyMoment (Some a) c (IsPlacing folder w q)) (sym told)
-        (synced_after a.now t u is synced, (t ∷ a.now ∷ [], refl, (inr (inl is), (inl refl, tt))))
-
--- ---- what was seen

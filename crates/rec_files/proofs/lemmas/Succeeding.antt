@@ -1,38 +1,33 @@
 -- What succeeds on a disk that works.
 use Rattle.std.proofs.Common.{◌≡◌, ◌≢◌, ◌⊎◌, ◌∙◌, inl, inr, refl, ap, sym, subst, arith, ℕ, ◌+◌, ◌<◌, ◌≤◌, Bool, true, false}
-use Rattle.std.proofs.Common.{List, [], ◌∷◌, length, take, length-take, Option, Some, None, IfSome, IsSomeAnd, Result, OnOk}
-use Rattle.std.specs.Prelude.{◌↔◌, IsTrue, IsSome, is_some, option_map, string_bytes, Ok, Err, IfOk, MatchOption}
+use Rattle.std.proofs.Common.{List, [], length, take, length-take, Option, Some, None, IfSome, IsSomeAnd, Result}
+use Rattle.std.specs.Prelude.{IsTrue, IsSome, is_some, option_map, string_bytes, Ok, Err, IfOk, MatchOption}
 use Rattle.std.specs.List.{AllByRecursion}
 use Rattle.std.specs.Option.{option_and_then}
 use Rattle.std.proofs.lemmas.Bool.{false≢true}
 use Rattle.rec_disk.specs.Disk.{State, Story, Look, Told, IsLookAt, IsLookFor, AtAnyMoment}
 use Rattle.rec_disk.specs.Lasting.{Spares}
-use Rattle.rec_disk.specs.proving.Places.{IsUnmoved}
-use Rattle.rec_disk.proofs.lemmas.Moments.{told_kept, told_both, told_so}
 use Rattle.rec_text.specs.declared.fault.Fault.{Fault}
 use Rattle.rec_text.specs.declared.fault.Fault.TheVariants.{StoreFailed}
 use Rattle.rec_tools.specs.Home.{Call, read_call, unread, writes_by}
 use Rattle.rec_files.specs.declared.failure.Failure.{Failure}
 use Rattle.rec_files.specs.declared.open_file.OpenFile.{OpenFile}
 use Rattle.rec_files.specs.declared.target.Target.{Target}
-use Rattle.rec_files.specs.Succeeding.{FailedForMemory, Kept, IsExcused, IsTold, Known, known, HasSeen, SawAnother, SawRegular, StandsAsSeen, AreUnchanged, AreApart, IsOther, IsShort}
+use Rattle.rec_files.specs.Succeeding.{FailedForMemory, Kept, IsExcused, IsTold, Known, known, HasSeen, SawAnother, StandsAsSeen, IsOther, IsShort}
 use Rattle.rec_files.specs.declared.last_put.LastPut.{LastPut}
 use Rattle.rec_files.specs.Succeeding.{HadAll, CanPut, CanCompare, CanClear, CanPrepare, IsThere, IsReadable, IsRegularAt, IsUnlocked, other_for}
 use Rattle.rec_tools.specs.declared.home.Which.{Which}
 use Rattle.rec_tools.specs.declared.home.Which.TheVariants.{Base, Journal}
 use Rattle.rec_files.specs.declared.access.Access.{Access}
 use Rattle.rec_files.specs.declared.access.Access.TheVariants.{Look as Looks, Change as Changes}
-use Rattle.rec_files.specs.proving.Replacing.{SparesBut, SparesButNew, IsFreeAt, IsFound, IsMadeAt, AreMade}
-use Rattle.rec_files.specs.proving.Succeeding.{CanRead, AreFree, CanSettle, MayWrite, CanReplace, CanPlace, CanPlaceJournal, IsOwnJournal, IsNoted, IsLockable}
+use Rattle.rec_files.specs.proving.Replacing.{IsFound}
+use Rattle.rec_files.specs.proving.Succeeding.{CanRead, MayWrite, IsOwnJournal, IsNoted, IsLockable}
 use Rattle.rec_files.specs.Leftovers.{IsLeftJournal, IsLeftText}
 use Rattle.rec_disk.specs.Paths.{working_name}
 use Rattle.rec_files.specs.Paths.{path_of, end_of}
 use Rattle.rec_files.specs.OnDisk.{Sites, sites_of}
-use Rattle.rec_files.proofs.lemmas.Steps.{on_ok, on_ok_so, some_so}
+use Rattle.rec_files.proofs.lemmas.Steps.{some_so}
 use Rattle.rec_files.proofs.lemmas.Links.{led_to}
-
-longer : (b : ℕ) (bytes : List ℕ) → b ∷ bytes ≢ bytes
-longer b bytes e = omega (arith, ap length e)
 
 pub still_so : (P Q : State → Type 0) (o : Option Story) → ((s : State) → P s → Q s) → IsTold o P → IsTold o Q
 still_so P Q None so told = told
@@ -52,22 +47,8 @@ told_after R P Q (Some a) (Some b) so told all = so a.now b.now told all.0
 pub spared_told : (P : State → Type 0) (o n : Option Story) → IsTold o P → ((p : List ℕ) → AtAnyMoment o n (Spares p)) → IsTold n (λ s. Unit {0})
 spared_told P o n told spares = told_after (Spares []) P (λ s. Unit {0}) o n (λ s t was same. tt) told (spares [])
 
--- what was found there stands there still
-pub there_still : {X : Type 0} (number : X → ℕ) (found : Option X) (one : X) (w : List ℕ) (o n : Option Story) → found ≡ Some one → IsTold o (λ s. s.at w ≡ option_map number found)
-    → AtAnyMoment o n (Spares w) → IsTold n (λ s. IsSome (s.at w))
-there_still number found one w o n is told spares =
-    told_after (Spares w) (λ s. s.at w ≡ option_map number found) (λ s. IsSome (s.at w)) o n
-    (λ s t was same. subst IsSome (sym (same.at ∙ was ∙ ap (option_map number) is)) refl) told spares
-
 pub told_there : (P : State → Type 0) (o b : Option Story) → b ≡ o → IsTold o P → IsTold b (λ s. Unit {0})
 told_there P o b same told = subst (λ b. IsTold b (λ s. Unit {0})) (sym same) (still_so P (λ s. Unit {0}) o (λ s is. tt) told)
-
-pub spares_since : (w : List ℕ) (o b n : Option Story) → b ≡ o → SparesBut w b n → SparesBut w o n
-spares_since w o b n same spares = subst (λ b. SparesBut w b n) same spares
-
--- nothing comes to a place that is spared
-pub nothing_still : (w : List ℕ) (o n : Option Story) → Told o (λ s. s.at w ≡ None) → AtAnyMoment o n (Spares w) → Told n (λ t. t.at w ≡ None)
-nothing_still w o n nothing spares = told_kept (Spares w) (λ s. s.at w ≡ None) (λ t. t.at w ≡ None) o n (λ s t was same. same.at ∙ was) nothing spares
 
 -- ---- files
 
@@ -180,30 +161,6 @@ module _ (place leads : List ℕ → List ℕ) (regular : ℕ → Bool) (file jo
         (told_with Clearing (λ s. IsFound Four.new_journal (P s) s found) (λ s. IfSome (s.at Four.new_file) (LeftFile beside s)) o
         (λ s clear is. file_left s beside (λ there. told (subst IsSome is.at there)) clear) given left)
 
-    pub still_found : (o p m : Option Story) → p ≡ o → IsTold o Clearing → Told o (λ s. IsFound Four.new_journal (P s) s found) → SparesBut Four.new_file p m
-        → IsTold m (λ s. s.at Four.new_journal ≡ found)
-    still_found None p m same given left spares = absurd given
-    still_found (Some a) p m same given left spares =
-        told_after (Spares Four.new_journal) (λ s. s.at Four.new_journal ≡ found) (λ s. s.at Four.new_journal ≡ found) (Some a) m (λ s t was is. is.at ∙ was) left.at
-        (subst (λ p. SparesBut Four.new_file p m) same spares Four.new_journal given.apart.new_pair)
-
--- ---- two files are removed, or made
-
-module _ (sites : Sites) where
-  pub free_both : {X E : Type 0} (result : Result X E) (journal file : Option ℕ) (o m n : Option Story) → Told o (λ s. AreApart sites) → Told o (λ s. s.at sites.new_journal ≡ journal)
-      → Told o (λ s. s.at sites.new_file ≡ file) → SparesBut sites.new_file o m → (Told o (λ s. s.at sites.new_file ≡ file) → Told m (λ t. t.at sites.new_file ≡ None))
-      → SparesBut sites.new_journal m n → (Told m (λ s. s.at sites.new_journal ≡ journal) → OnOk result (Told n (λ t. t.at sites.new_journal ≡ None)))
-      → OnOk result (Told n (AreFree sites))
-  free_both result journal file None None None apart at_j at_f spares_f clear_f spares_j clear_j = on_ok result (Unit {0}) tt
-  free_both result journal file None None (Some c) apart at_j at_f spares_f clear_f spares_j clear_j = absurd (spares_j (0 ∷ sites.new_journal) (longer 0 sites.new_journal))
-  free_both result journal file None (Some b) n apart at_j at_f spares_f clear_f spares_j clear_j = absurd (spares_f (0 ∷ sites.new_file) (longer 0 sites.new_file))
-  free_both result journal file (Some a) None n apart at_j at_f spares_f clear_f spares_j clear_j = absurd (spares_f (0 ∷ sites.new_file) (longer 0 sites.new_file))
-  free_both result journal file (Some a) (Some b) None apart at_j at_f spares_f clear_f spares_j clear_j = absurd (spares_j (0 ∷ sites.new_journal) (longer 0 sites.new_journal))
-  free_both result journal file (Some a) (Some b) (Some c) apart at_j at_f spares_f clear_f spares_j clear_j =
-      on_ok_so result (c.now.at sites.new_journal ≡ None) (AreFree sites c.now)
-      (λ none. record { journal = none; file = (spares_j sites.new_file (λ e. apart.new_pair (sym e))).0.at ∙ clear_f at_f })
-      (clear_j ((spares_f sites.new_journal apart.new_pair).0.at ∙ at_j))
-
 -- ---- what was seen is seen still where its place is spared
 
 pub seen_still : (p : List ℕ) (look : Option (Option Look)) (s t : State) → Spares p s t → HasSeen p look s → HasSeen p look t
@@ -222,37 +179,6 @@ pub stands_still : (place leads : List ℕ → List ℕ) (known : Known) (s t : 
 stands_still place leads known s t same stands =
     record { at = same.at ∙ stands.at; seen = seen_still (place known.path) known.look s t same stands.seen; led = stands.led }
 
--- so after what was left over is removed both are as they were
-pub unchanged_on : (place leads : List ℕ → List ℕ) (link : List ℕ → Option (List ℕ)) (regular : ℕ → Bool) (given_file given_journal : List ℕ) (file journal : Known) (o n : Option Story)
-    → IsTold o (CanPrepare place leads link regular given_file given_journal file journal) → SparesButNew (sites_of place file.path journal.path) o n
-    → IsTold n (AreUnchanged place leads regular file journal)
-unchanged_on place leads link regular given_file given_journal file journal None n given spares = absurd given
-unchanged_on place leads link regular given_file given_journal file journal (Some a) None given spares =
-    spares (place file.path) given.clear.apart.file_new_journal given.clear.apart.file_new_file
-unchanged_on place leads link regular given_file given_journal file journal (Some a) (Some b) given spares =
-    let apart = given.clear.apart in
-    let was = given.unchanged in
-    record {
-      file_stands = stands_still place leads file a.now b.now (spares (place file.path) apart.file_new_journal apart.file_new_file).0 was.file_stands;
-      journal_stands = stands_still place leads journal a.now b.now (spares (place journal.path) apart.journal_new_journal apart.journal_new_file).0 was.journal_stands;
-      is_regular = was.is_regular;
-    }
-
-pub settle_on : (place leads : List ℕ → List ℕ) (link : List ℕ → Option (List ℕ)) (regular : ℕ → Bool) (given_file given_journal : List ℕ) (file journal : Known) (L : Type 0)
-    (o n : Option Story) → IsTold o (λ s. L × CanPrepare place leads link regular given_file given_journal file journal s) → SparesButNew (sites_of place file.path journal.path) o n
-    → IsTold n (λ s. CanSettle place regular file s × CanSettle place regular journal s)
-settle_on place leads link regular given_file given_journal file journal L None n given spares = absurd given
-settle_on place leads link regular given_file given_journal file journal L (Some a) n given spares =
-    still_so (AreUnchanged place leads regular file journal) (λ s. CanSettle place regular file s × CanSettle place regular journal s) n
-    (λ s was. (record { at = was.file_stands.at; is_regular = given.1.is_regular }, record { at = was.journal_stands.at; is_regular = was.is_regular }))
-    (unchanged_on place leads link regular given_file given_journal file journal (Some a) n given.1 spares)
-
-pub free_on : (sites : Sites) (o n : Option Story) → Told o (AreFree sites) → ((p : List ℕ) → AtAnyMoment o n (Spares p)) → Told n (AreFree sites)
-free_on sites o n free spares =
-    told_both (λ t. t.at sites.new_journal ≡ None) (λ t. t.at sites.new_file ≡ None) (AreFree sites) n (λ t one other. record { journal = one; file = other })
-    (nothing_still sites.new_journal o n (told_so (AreFree sites) (λ t. t.at sites.new_journal ≡ None) o (λ s is. is.journal) free) (spares sites.new_journal))
-    (nothing_still sites.new_file o n (told_so (AreFree sites) (λ t. t.at sites.new_file ≡ None) o (λ s is. is.file) free) (spares sites.new_file))
-
 -- ---- a put goes on
 
 pub told_fact : (P : Type 0) (o : Option Story) → IsTold o (λ s. P) → P
@@ -263,30 +189,15 @@ pub same_told : (P : State → Type 0) (o b : Option Story) → b ≡ o → IsTo
 same_told P o b same told = subst (λ b. IsTold b P) (sym same) told
 
 module _ (place leads : List ℕ → List ℕ) (file journal : Known) where
-  abbrev Sites4 : Sites
-  Sites4 = sites_of place file.path journal.path
-
-  abbrev Replaces : State → Type 0
-  Replaces s = CanReplace place leads file journal s
-
   pub may_write : (link : List ℕ → Option (List ℕ)) (led : (path : List ℕ) → MatchOption (link path) (leads path ≡ place path) (λ next. leads path ≡ leads next)) (regular : ℕ → Bool)
-      (given_file given_journal : List ℕ) (L : Type 0) (o : Option Story)
-      → IsTold o (λ s. L × CanPrepare place leads link regular given_file given_journal file journal s) → IsTold o (MayWrite place leads regular file)
-  may_write link led regular given_file given_journal L o given =
-      still_so (λ s. L × CanPrepare place leads link regular given_file given_journal file journal s) (MayWrite place leads regular file) o
+      (given_file given_journal : List ℕ) (o : Option Story) → IsTold o (CanPrepare place leads link regular given_file given_journal file journal) → IsTold o (MayWrite place leads regular file)
+  may_write link led regular given_file given_journal o given =
+      still_so (CanPrepare place leads link regular given_file given_journal file journal) (MayWrite place leads regular file) o
       (λ s can. record {
-        seen = can.1.unchanged.file_stands.seen;
-        is_regular = can.1.is_regular;
-        straight = (led_to link place leads led 40 given_file file.path can.1.file_end).1;
+        seen = can.unchanged.file_stands.seen;
+        is_regular = can.is_regular;
+        straight = (led_to link place leads led 40 given_file file.path can.file_end).1;
       }) given
-
-  pub replace_from : (link : List ℕ → Option (List ℕ)) (regular : ℕ → Bool) (given_file given_journal : List ℕ) (L : Type 0) (o b : Option Story)
-      → IsTold o (λ s. L × CanPrepare place leads link regular given_file given_journal file journal s) → SparesButNew Sites4 o b → Told b (AreFree Sites4) → IsTold b (λ s. L × Replaces s)
-  replace_from link regular given_file given_journal L None b given spares free = absurd given
-  replace_from link regular given_file given_journal L (Some a) b given spares free =
-      told_with (AreUnchanged place leads regular file journal) (AreFree Sites4) (λ s. L × Replaces s) b
-      (λ s was none. (given.0, record { apart = given.1.clear.apart; free = none; file_stands = was.file_stands; journal_stands = was.journal_stands }))
-      (unchanged_on place leads link regular given_file given_journal file journal (Some a) b given.1 spares) free
 
 -- ---- what can be read
 

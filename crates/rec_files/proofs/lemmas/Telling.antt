@@ -1,42 +1,91 @@
 -- That what a stop or a crash may leave under the working names is told, after each of the steps.
-use Rattle.std.proofs.Common.{◌≡◌, ◌≢◌, ◌⊎◌, ◌∙◌, inl, inr, ℕ, ◌≤◌, Bool, true, false, List, length, Option, Some, None, refl, sym, ap, subst, arith, take_all, IfSome, IsSomeAnd, if◌then◌else◌}
+use Rattle.std.proofs.Common.{◌≡◌, ◌≢◌, ◌⊎◌, ◌∙◌, inl, inr, ℕ, ◌≤◌, Bool, true, false, List, ◌∷◌, length, Option, Some, None, refl, sym, ap, subst, arith, take_all, IfSome, IsSomeAnd, if◌then◌else◌}
 use Rattle.std.specs.Prelude.{IsSome, bytes_eq}
 use Rattle.std.proofs.lemmas.Bool.{cond-true, cond-false, cond_both}
 use Rattle.rec_disk.specs.Disk.{State, put, set, made, synced, renamed, removed}
-use Rattle.rec_disk.specs.Lasting.{kept, IsMoment, MayHold, MayStand, Left, LeavesInOrder, Spares}
+use Rattle.rec_disk.specs.Lasting.{kept, IsMoment, MayHold, MayStand, LeavesInOrder, Spares}
 use Rattle.rec_disk.specs.proving.Places.{IsSeen}
 use Rattle.rec_disk.proofs.lemmas.Points.{set_same, set_other, put_same, put_other, eq_bytes, ne_bytes}
 use Rattle.rec_disk.proofs.lemmas.Places.{may_before, spares-made, spares-removed, spares-renamed}
 use Rattle.rec_files.specs.Leftovers.{BeginsAsJournal, IsLeftJournal, IsLeftText, IsStopBetween}
-use Rattle.rec_files.specs.OnDisk.{Sites, AreLeft, AreTold}
+use Rattle.rec_files.specs.OnDisk.{Sites, AreTold}
 use Rattle.rec_files.specs.Succeeding.{AreApart}
 use Rattle.rec_files.specs.proving.Replacing.{BothWait, IsPlacing}
-use Rattle.rec_files.specs.proving.Recovering.{IsMaking, IsRemoving, IsWriting, IsSyncedSince, IsSyncedIn, IsOwn, IsOwnNow, Standing, MayStandSo}
+use Rattle.rec_files.specs.proving.Recovering.{IsMaking, IsRemoving, IsWriting, IsSyncedSince, IsSyncedIn, IsOwn, AreTogether}
 use Rattle.rec_files.specs.proving.Recovering.{IsGone, JournalStands, IsFine, HasLeftJournal, IsAlone, IsBeside, CanTell, NextLasts}
 use Rattle.rec_files.proofs.lemmas.Moments.{bytes_on, eq_or, held_on, hold_so, if_some, journal_removed, journal_since, journal_spared, journal_written, kept_safe}
-use Rattle.rec_files.proofs.lemmas.Moments.{may_changed, may_moment, may_since, may_unmoved, none_there, on, same_or, since-folder_synced}
-use Rattle.rec_files.proofs.lemmas.Standing.{may_file, may_new_file, may_new_journal, only_now, so_file, so_journal, so_since, so_unmoved, with_file, with_journal}
+use Rattle.rec_files.proofs.lemmas.Moments.{may_changed, may_moment, moment_may, may_since, may_unmoved, none_there, on, same_or, since-folder_synced}
+use Rattle.rec_files.proofs.lemmas.Standing.{IsBefore, before, only_now, together_since, together_unmoved}
 
 -- ---- what is told
 
+-- by what stands at the four places
+abbrev Text : (ℕ → Bool) → (ℕ → List ℕ) → Option ℕ → Option ℕ → Option ℕ → Option ℕ → Type 0
+Text held bytes file new_file journal new_journal = IfSome new_file (λ n. (held n ≡ false) × (IsSome new_journal ⊎ IsLeftText bytes file n journal))
+
+text_as : (held : ℕ → Bool) (bytes : ℕ → List ℕ) (file file_was new_file new_file_was journal journal_was new_journal new_journal_was : Option ℕ) → file ≡ file_was → new_file ≡ new_file_was
+    → journal ≡ journal_was → new_journal ≡ new_journal_was → Text held bytes file_was new_file_was journal_was new_journal_was → Text held bytes file new_file journal new_journal
+text_as held bytes file file_was new_file new_file_was journal journal_was new_journal new_journal_was a b c d text =
+    subst (λ x. Text held bytes x new_file journal new_journal) (sym a)
+    (subst (λ x. Text held bytes file_was x journal new_journal) (sym b)
+    (subst (λ x. Text held bytes file_was new_file_was x new_journal) (sym c) (subst (λ x. Text held bytes file_was new_file_was journal_was x) (sym d) text)))
+
 module _ (crash : Bool) (folder : List ℕ → List ℕ) (sites : Sites) where
-  abbrev So : State → Standing → Type 0
-  So = MayStandSo crash folder sites
+  abbrev Moment : Type 0
+  Moment = List ℕ → Option ℕ
 
-  abbrev Next : State → Standing → ℕ → Type 0
-  Next s v n = (s.held n ≡ false) × IsSome v.new_journal
+  abbrev So : State → Moment → Moment → Type 0
+  So = AreTogether crash folder sites
 
-  abbrev Text : State → Standing → (ℕ → List ℕ) → ℕ → Type 0
-  Text s v bytes n = (s.held n ≡ false) × (IsSome v.new_journal ⊎ IsLeftText bytes v.file n v.journal)
+  abbrev Next : State → Moment → ℕ → Type 0
+  Next s j n = (s.held n ≡ false) × IsSome (j sites.new_journal)
+
+  abbrev TextAt : State → (ℕ → List ℕ) → Moment → Moment → ℕ → Type 0
+  TextAt s bytes f j n = (s.held n ≡ false) × (IsSome (j sites.new_journal) ⊎ IsLeftText bytes (f sites.file) n (j sites.journal))
+
+  abbrev E : Type 0
+  E = folder sites.file ≡ folder sites.journal
+
+  -- one change was made, at the file's places or at the journal's
+  module _ (s u : State) (f j : Moment) (later : u.olds ≡ s.at ∷ s.olds) (so : So u f j) where
+    abbrev AtFile : Moment → Type 0
+    AtFile = IsBefore crash s E j sites.journal sites.new_journal
+
+    abbrev AtJournal : Moment → Type 0
+    AtJournal = IsBefore crash s E f sites.file sites.new_file
+
+    at_file : u.at sites.journal ≡ s.at sites.journal → u.at sites.new_journal ≡ s.at sites.new_journal → (IsMoment crash s f × AtFile f) ⊎ ((f ≡ u.at) × AtFile s.at)
+    at_file = before crash s u E (same_or (folder sites.file) (folder sites.journal)) f j sites.journal sites.new_journal later so.one so.file so.journal
+
+    at_journal : u.at sites.file ≡ s.at sites.file → u.at sites.new_file ≡ s.at sites.new_file → (IsMoment crash s j × AtJournal j) ⊎ ((j ≡ u.at) × AtJournal s.at)
+    at_journal = before crash s u E (same_or (folder sites.file) (folder sites.journal)) j f sites.file sites.new_file later (λ e. sym (so.one e)) so.journal so.file
+
+    -- it could be told then
+    module _ (held : ℕ → Bool) (bytes : ℕ → List ℕ) where
+      abbrev Was : Type 0
+      Was = (f j : Moment) → So s f j → IfSome (f sites.new_file) (λ n. (held n ≡ false) × (IsSome (j sites.new_journal) ⊎ IsLeftText bytes (f sites.file) n (j sites.journal)))
+
+      was_at_file : Was → IsMoment crash s f → AtFile f → Text held bytes (f sites.file) (f sites.new_file) (j sites.journal) (j sites.new_journal)
+      was_at_file was old b =
+          text_as held bytes (f sites.file) (f sites.file) (f sites.new_file) (f sites.new_file) (j sites.journal) (b.was sites.journal) (j sites.new_journal) (b.was sites.new_journal) refl refl
+          b.at_p b.at_q (was f b.was (record { file = old; journal = b.is; one = b.one }))
+
+      was_at_journal : Was → IsMoment crash s j → AtJournal j → Text held bytes (f sites.file) (f sites.new_file) (j sites.journal) (j sites.new_journal)
+      was_at_journal was old b =
+          text_as held bytes (f sites.file) (b.was sites.file) (f sites.new_file) (b.was sites.new_file) (j sites.journal) (j sites.journal) (j sites.new_journal) (j sites.new_journal) b.at_p b.at_q
+          refl refl (was b.was j (record { file = b.is; journal = old; one = λ e. sym (b.one e) }))
 
   pub beside_tell : (s : State) → IsBeside crash folder sites s → CanTell crash folder sites s
   beside_tell s is = record {
     journal = is.journal;
-    file = λ v so bytes holds. if_some (Next s v) (Text s v bytes) v.new_file (λ n both. (both.0, inl both.1)) (is.file v so);
+    file = λ f j so bytes holds. if_some (Next s j) (TextAt s bytes f j) (f sites.new_file) (λ n both. (both.0, inl both.1)) (is.file f j so);
   }
 
   pub alone_beside : (s : State) → IsAlone crash sites s → IsBeside crash folder sites s
-  alone_beside s is = record { journal = is.journal; file = λ v so. none_there (Next s v) v.new_file (is.file v.new_file (may_new_file crash folder sites s v so)) }
+  alone_beside s is = record {
+    journal = is.journal;
+    file = λ f j so. none_there (Next s j) (f sites.new_file) (is.file (f sites.new_file) (moment_may crash s f sites.new_file so.file));
+  }
 
   pub alone_tell : (s : State) → IsAlone crash sites s → CanTell crash folder sites s
   alone_tell s is = beside_tell s (alone_beside s is)
@@ -50,15 +99,15 @@ module _ (crash : Bool) (folder : List ℕ → List ℕ) (sites : Sites) where
       let new = made s sites.new_file n in
       subst (IsBeside crash folder sites) (sym is) (record {
         journal = journal_spared crash sites s new was.journal (spares-made sites.new_journal s sites.new_file n apart.new_pair fresh);
-        file = λ v so. elim (so_file crash folder sites s new v refl so (put_other s.at sites.new_file sites.journal (Some n) apart.journal_new_file)
+        file = λ f j so. elim (at_file s new f j refl so (put_other s.at sites.new_file sites.journal (Some n) apart.journal_new_file)
             (put_other s.at sites.new_file sites.new_journal (Some n) apart.new_pair)) [
-              | inl old ↦ none_there (Next new v) v.new_file (was.file v.new_file (may_new_file crash folder sites s v old))
-              | inr now ↦ subst (λ x. IfSome x (Next new v)) (sym (now.new_file ∙ put_same s.at sites.new_file sites.new_file (Some n) refl)) (
+              | inl (old, b) ↦ none_there (Next new j) (f sites.new_file) (was.file (f sites.new_file) (moment_may crash s f sites.new_file old))
+              | inr (now, b) ↦ subst (λ x. IfSome x (Next new j)) (sym (on f new.at sites.new_file now ∙ put_same s.at sites.new_file sites.new_file (Some n) refl)) (
                 set_same s.held n n false refl,
-                elim (same_or (folder sites.file) (folder sites.journal)) [
-                  | inl e ↦ subst IsSome (sym (now.one e)) there.now
-                  | inr ne ↦ there.left ne v.new_journal (may_new_journal crash folder sites s (with_file crash folder sites s v) now.was)
-                ],
+                subst IsSome (sym b.at_q) (elim (same_or (folder sites.file) (folder sites.journal)) [
+                  | inl e ↦ subst IsSome (on s.at b.was sites.new_journal (b.one e)) there.now
+                  | inr ne ↦ there.left ne (b.was sites.new_journal) (moment_may crash s b.was sites.new_journal b.is)
+                ]),
               )
             ];
       })
@@ -68,7 +117,8 @@ module _ (crash : Bool) (folder : List ℕ → List ℕ) (sites : Sites) where
   beside_held : (s u : State) → IsBeside crash folder sites s → u.at ≡ s.at → u.olds ≡ s.olds → u.held ≡ s.held → HasLeftJournal crash sites u → IsBeside crash folder sites u
   beside_held s u was at olds held journal = record {
     journal = journal;
-    file = λ v so. if_some (Next s v) (Next u v) v.new_file (λ n both. (held_on s u n held ∙ both.0, both.1)) (was.file v (so_unmoved crash folder sites s u v at olds so));
+    file = λ f j so. if_some (Next s j) (Next u j) (f sites.new_file) (λ n both. (held_on s u n held ∙ both.0, both.1))
+        (was.file f j (together_unmoved crash folder sites s u f j at olds so));
   }
 
   pub beside_journal_written : (n : ℕ) (bytes : List ℕ) (s u : State) → BeginsAsJournal bytes → length bytes ≤ 1_073_741_824 → IsBeside crash folder sites s → IsWriting n bytes s u
@@ -87,10 +137,10 @@ module _ (crash : Bool) (folder : List ℕ → List ℕ) (sites : Sites) where
       let new = removed s sites.new_file in
       subst (CanTell crash folder sites) (sym is) (record {
         journal = journal_spared crash sites s new was.journal (spares-removed sites.new_journal s sites.new_file apart.new_pair);
-        file = λ v so bytes holds. elim (so_file crash folder sites s new v refl so (put_other s.at sites.new_file sites.journal None apart.journal_new_file)
+        file = λ f j so bytes holds. elim (at_file s new f j refl so (put_other s.at sites.new_file sites.journal None apart.journal_new_file)
             (put_other s.at sites.new_file sites.new_journal None apart.new_pair)) [
-              | inl old ↦ was.file v old bytes holds
-              | inr now ↦ none_there (Text new v bytes) v.new_file (now.new_file ∙ put_same s.at sites.new_file sites.new_file None refl)
+              | inl (old, b) ↦ was_at_file s new f j refl so s.held bytes (λ f j so. was.file f j so bytes holds) old b
+              | inr (now, b) ↦ none_there (TextAt new bytes f j) (f sites.new_file) (on f new.at sites.new_file now ∙ put_same s.at sites.new_file sites.new_file None refl)
             ];
       })
 
@@ -100,12 +150,12 @@ module _ (crash : Bool) (folder : List ℕ → List ℕ) (sites : Sites) where
       let new = removed s sites.new_journal in
       subst (CanTell crash folder sites) (sym is) (record {
         journal = journal_removed crash sites s was.journal;
-        file = λ v so bytes holds. elim (so_journal crash folder sites s new v refl so (put_other s.at sites.new_journal sites.file None apart.file_new_journal)
+        file = λ f j so bytes holds. elim (at_journal s new f j refl so (put_other s.at sites.new_journal sites.file None apart.file_new_journal)
             (put_other s.at sites.new_journal sites.new_file None (λ e. apart.new_pair (sym e)))) [
-              | inl old ↦ was.file v old bytes holds
-              | inr now ↦ none_there (Text new v bytes) v.new_file (elim (same_or (folder sites.file) (folder sites.journal)) [
-                | inl e ↦ now.one e ∙ gone.now
-                | inr ne ↦ gone.left ne v.new_file (may_new_file crash folder sites s (with_journal crash folder sites s v) now.was)
+              | inl (old, b) ↦ was_at_journal s new f j refl so s.held bytes (λ f j so. was.file f j so bytes holds) old b
+              | inr (now, b) ↦ none_there (TextAt new bytes f j) (f sites.new_file) (b.at_q ∙ elim (same_or (folder sites.file) (folder sites.journal)) [
+                | inl e ↦ on b.was s.at sites.new_file (sym (b.one e)) ∙ gone.now
+                | inr ne ↦ gone.left ne (b.was sites.new_file) (moment_may crash s b.was sites.new_file b.is)
               ])
             ];
       })
@@ -159,18 +209,20 @@ module _ (crash : Bool) (folder : List ℕ → List ℕ) (sites : Sites) where
       let whole : (bytes : ℕ → List ℕ) → ((n : ℕ) → MayHold crash new n (bytes n)) → (o : ℕ) → kept crash s o ≡ true → bytes o ≡ s.bytes o = λ bytes holds o is. (holds o).1 is in
       record {
         journal = journal_moved s apart ready.beside.journal;
-        file = λ v so bytes holds. elim (so_journal crash folder sites s new v refl so (renamed_other s sites.new_journal sites.journal sites.file apart.file_new_journal (λ e. apart.pair (sym e)))
+        file = λ f j so bytes holds. elim (at_journal s new f j refl so (renamed_other s sites.new_journal sites.journal sites.file apart.file_new_journal (λ e. apart.pair (sym e)))
             (renamed_other s sites.new_journal sites.journal sites.new_file (λ e. apart.new_pair (sym e)) (λ e. apart.journal_new_file (sym e)))) [
-              | inl old ↦ (beside_tell s ready.beside).file v old bytes holds
-              | inr now ↦ elim (ready.own v.new_file (may_new_file crash folder sites s (with_journal crash folder sites s v) now.was)) [
-                | inl none ↦ none_there (Text new v bytes) v.new_file none
+              | inl (old, b) ↦ was_at_journal s new f j refl so s.held bytes (λ f j so. (beside_tell s ready.beside).file f j so bytes holds) old b
+              | inr (now, b) ↦ elim (ready.own (b.was sites.new_file) (moment_may crash s b.was sites.new_file b.is)) [
+                | inl none ↦ none_there (TextAt new bytes f j) (f sites.new_file) (b.at_q ∙ none)
                 | inr own ↦
                     let is = own ∙ sym ready.at ∙ of_file.at in
-                    let free = (subst (λ x. IfSome x (Next s (with_journal crash folder sites s v))) is (ready.beside.file (with_journal crash folder sites s v) now.was)).0 in
-                    subst (λ x. IfSome x (Text new v bytes)) (sym is) (
+                    let free = (subst (λ x. IfSome x (Next s s.at)) is (ready.beside.file b.was s.at (record { file = b.is; journal = inl refl; one = λ e. sym (b.one e) }))).0 in
+                    subst (λ x. IfSome x (TextAt new bytes f j)) (sym (b.at_q ∙ is)) (
                       free,
-                      inr (text_next s bytes journal file of_file.n of_journal.n v.file v.journal (ready.next v.file (may_file crash folder sites s (with_journal crash folder sites s v) now.was))
-                          (now.journal ∙ renamed_to s sites.new_journal sites.journal ∙ of_journal.at)
+                      inr (text_next s bytes journal file of_file.n of_journal.n (f sites.file) (j sites.journal)
+                          (subst (IsSeen crash (λ old. IsSomeAnd old (λ bytes. IsStopBetween bytes file journal)) s) (sym b.at_p)
+                          (ready.next (b.was sites.file) (moment_may crash s b.was sites.file b.is)))
+                          (on j new.at sites.journal now ∙ renamed_to s sites.new_journal sites.journal ∙ of_journal.at)
                           (whole bytes holds of_file.n (kept_safe crash crash s of_file.n of_file.safe) ∙ of_file.is)
                           (whole bytes holds of_journal.n (kept_safe crash crash s of_journal.n of_journal.safe) ∙ of_journal.is)
                           (whole bytes holds)),
@@ -184,10 +236,10 @@ module _ (crash : Bool) (folder : List ℕ → List ℕ) (sites : Sites) where
       let new = renamed s sites.new_file sites.file in
       record {
         journal = journal_spared crash sites s new was.journal (spares-renamed sites.new_journal s sites.new_file sites.file apart.new_pair (λ e. apart.file_new_journal (sym e)));
-        file = λ v so bytes holds. elim (so_file crash folder sites s new v refl so (renamed_other s sites.new_file sites.file sites.journal apart.journal_new_file apart.pair)
+        file = λ f j so bytes holds. elim (at_file s new f j refl so (renamed_other s sites.new_file sites.file sites.journal apart.journal_new_file apart.pair)
             (renamed_other s sites.new_file sites.file sites.new_journal apart.new_pair (λ e. apart.file_new_journal (sym e)))) [
-              | inl old ↦ was.file v old bytes holds
-              | inr now ↦ none_there (Text new v bytes) v.new_file (now.new_file ∙ renamed_away s sites.new_file sites.file apart.file_new_file)
+              | inl (old, b) ↦ was_at_file s new f j refl so s.held bytes (λ f j so. was.file f j so bytes holds) old b
+              | inr (now, b) ↦ none_there (TextAt new bytes f j) (f sites.new_file) (on f new.at sites.new_file now ∙ renamed_away s sites.new_file sites.file apart.file_new_file)
             ];
       }
 
@@ -223,8 +275,12 @@ module _ (crash : Bool) (folder : List ℕ → List ℕ) (sites : Sites) where
     pub tell_since : (s u : State) → CanTell crash folder sites s → IsSyncedSince folder s u → CanTell crash folder sites u
     tell_since s u was since = record {
       journal = journal_since crash sites folder s u was.journal since;
-      file = λ v so bytes holds. if_some (Text s v bytes) (Text u v bytes) v.new_file (λ n both. (held_on s u n since.held ∙ both.0, both.1))
-          (was.file v (so_since crash folder sites beside s u v since so) bytes (λ n. hold_so crash s u n (bytes n) (bytes_on s u n since.bytes) (since.safe n) (holds n)));
+      file = λ f j so bytes holds.
+          let now = together_since crash folder sites beside s u f j since so in
+          if_some (TextAt s bytes f j) (TextAt u bytes f j) (f sites.new_file) (λ n both. (held_on s u n since.held ∙ both.0, both.1))
+          (text_as s.held bytes (f sites.file) (now.f_was sites.file) (f sites.new_file) (now.f_was sites.new_file) (j sites.journal) (now.j_was sites.journal) (j sites.new_journal)
+          (now.j_was sites.new_journal) now.file now.new_file now.journal now.new_journal
+          (was.file now.f_was now.j_was now.so bytes (λ n. hold_so crash s u n (bytes n) (bytes_on s u n since.bytes) (since.safe n) (holds n))));
     }
 
     own_since : (own : Option ℕ) (s u : State) → IsOwn crash sites.new_file own s → IsSyncedSince folder s u → IsOwn crash sites.new_file own u
@@ -310,30 +366,18 @@ module _ (crash : Bool) (folder : List ℕ → List ℕ) (sites : Sites) where
     hold_now : (s : State) (n : ℕ) → MayHold crash s n (s.bytes n)
     hold_now s n = (inl (length (s.bytes n), sym (take_all (length (s.bytes n)) (s.bytes n) (omega arith))), λ is. refl)
 
-    told_text : (s : State) (left : Left) (v : Standing) → left.at sites.file ≡ v.file → left.at sites.new_file ≡ v.new_file → left.at sites.journal ≡ v.journal
-        → left.at sites.new_journal ≡ v.new_journal → AreLeft sites (record s { at = left.at; bytes = left.bytes }) → IfSome v.new_file (Text s v left.bytes)
-    told_text s left v file new_file journal new_journal is =
-        subst (λ a. IfSome v.new_file (λ n. (s.held n ≡ false) × (IsSome v.new_journal ⊎ IsLeftText left.bytes a n v.journal))) file
-        (subst (λ a. IfSome v.new_file (λ n. (s.held n ≡ false) × (IsSome v.new_journal ⊎ IsLeftText left.bytes (left.at sites.file) n a))) journal
-        (subst (λ a. IfSome v.new_file (λ n. (s.held n ≡ false) × (IsSome a ⊎ IsLeftText left.bytes (left.at sites.file) n (left.at sites.journal)))) new_journal
-        (subst (λ a. IfSome a (λ n. (s.held n ≡ false) × (IsSome (left.at sites.new_journal) ⊎ IsLeftText left.bytes (left.at sites.file) n (left.at sites.journal)))) new_file is.file)))
-
-    tell_told : (s : State) → AreTold crash folder sites s → (v : Standing) → So s v → (bytes : ℕ → List ℕ) → ((n : ℕ) → MayHold crash s n (bytes n)) → IfSome v.new_file (Text s v bytes)
-    tell_told s told v so bytes holds =
-        let left : Left = record { at = mixed so.f so.j; bytes = bytes } in
-        let is = told left (left_of s so.f so.j bytes so.f_is so.j_is holds) in
-        let of_file : (p : List ℕ) → (crash ≡ true → folder p ≡ folder sites.file) → (so.f ≡ so.j) ⊎ (folder p ≡ folder sites.file) = λ p in_folder. elim (crash_or crash) [
+    tell_told : (s : State) → AreTold crash folder sites s → (f j : Moment) → So s f j → (bytes : ℕ → List ℕ) → ((n : ℕ) → MayHold crash s n (bytes n))
+        → IfSome (f sites.new_file) (TextAt s bytes f j)
+    tell_told s told f j so bytes holds =
+        let at = mixed f j in
+        let same : (p d : List ℕ) → (crash ≡ true → folder p ≡ d) → (f ≡ j) ⊎ (folder p ≡ d) = λ p d in_folder. elim (crash_or crash) [
           | inl crashes ↦ inr (in_folder crashes)
-          | inr stops ↦ inl (are_one s so.f so.j stops so.f_is so.j_is)
+          | inr stops ↦ inl (are_one s f j stops so.file so.journal)
         ] in
-        let of_journal : (p : List ℕ) → (crash ≡ true → folder p ≡ folder sites.journal) → (so.f ≡ so.j) ⊎ (folder p ≡ folder sites.journal) = λ p in_folder. elim (crash_or crash) [
-          | inl crashes ↦ inr (in_folder crashes)
-          | inr stops ↦ inl (are_one s so.f so.j stops so.f_is so.j_is)
-        ] in
-        told_text s left v (mixed_file so.f so.j sites.file (inr refl) ∙ sym so.file)
-        (mixed_file so.f so.j sites.new_file (of_file sites.new_file (λ c. (beside c).0)) ∙ sym so.new_file)
-        (mixed_journal so.f so.j sites.journal so.one (inr refl) ∙ sym so.journal)
-        (mixed_journal so.f so.j sites.new_journal so.one (of_journal sites.new_journal (λ c. (beside c).1)) ∙ sym so.new_journal) is
+        text_as s.held bytes (f sites.file) (at sites.file) (f sites.new_file) (at sites.new_file) (j sites.journal) (at sites.journal) (j sites.new_journal) (at sites.new_journal)
+        (sym (mixed_file f j sites.file (inr refl))) (sym (mixed_file f j sites.new_file (same sites.new_file (folder sites.file) (λ c. (beside c).0))))
+        (sym (mixed_journal f j sites.journal so.one (inr refl))) (sym (mixed_journal f j sites.new_journal so.one (same sites.new_journal (folder sites.journal) (λ c. (beside c).1))))
+        (told (record { at = at; bytes = bytes }) (left_of s f j bytes so.file so.journal holds)).file
 
     -- of one file other bytes
     other_bytes : (s : State) (n : ℕ) (text : List ℕ) → MayHold crash s n text → (m : ℕ) → MayHold crash s m (set s.bytes n text m)
@@ -363,37 +407,23 @@ module _ (crash : Bool) (folder : List ℕ → List ℕ) (sites : Sites) where
       file = tell_told s told;
     }
 
-    -- what is left of the four
-    so_left : (s : State) (left : Left) → LeavesInOrder crash folder s left
-        → So s (record { file = left.at sites.file; new_file = left.at sites.new_file; journal = left.at sites.journal; new_journal = left.at sites.new_journal })
-    so_left s left leaves =
-        let f = leaves.at (folder sites.file) in
-        let j = leaves.at (folder sites.journal) in
+    pub tell_all : (s : State) → CanTell crash folder sites s → AreTold crash folder sites s
+    tell_all s tell left leaves =
+        let (f, f_is, f_at) = leaves.at (folder sites.file) in
+        let (j, j_is, j_at) = leaves.at (folder sites.journal) in
         let stands : (p d : List ℕ) → (crash ≡ true → folder p ≡ d) → left.at p ≡ (leaves.at d).0 p = λ p d in_folder. elim (crash_or crash) [
           | inl crashes ↦ (leaves.at d).2 p (in_folder crashes)
           | inr stops ↦ (leaves.at (folder p)).2 p refl
               ∙ on (leaves.at (folder p)).0 (leaves.at d).0 p (are_one s (leaves.at (folder p)).0 (leaves.at d).0 stops (leaves.at (folder p)).1 (leaves.at d).1)
         ] in
+        let new_file = stands sites.new_file (folder sites.file) (λ c. (beside c).0) in
+        let new_journal = stands sites.new_journal (folder sites.journal) (λ c. (beside c).1) in
         record {
-          f = f.0;
-          j = j.0;
-          f_is = f.1;
-          j_is = j.1;
-          one = λ e. ap (λ d. (leaves.at d).0) e;
-          file = f.2 sites.file refl;
-          new_file = stands sites.new_file (folder sites.file) (λ c. (beside c).0);
-          journal = j.2 sites.journal refl;
-          new_journal = stands sites.new_journal (folder sites.journal) (λ c. (beside c).1);
-        }
-
-    pub tell_all : (s : State) → CanTell crash folder sites s → AreTold crash folder sites s
-    tell_all s tell left leaves =
-        let v : Standing = record { file = left.at sites.file; new_file = left.at sites.new_file; journal = left.at sites.journal; new_journal = left.at sites.new_journal } in
-        let so = so_left s left leaves in
-        record {
-          journal = if_some (IsFine crash s) (λ n. (s.held n ≡ false) × IsLeftJournal (left.bytes n)) v.new_journal (λ n is. (is.free, is.is (left.bytes n) (leaves.bytes n)))
-              (tell.journal v.new_journal (may_new_journal crash folder sites s v so));
-          file = tell.file v so left.bytes leaves.bytes;
+          journal = if_some (IsFine crash s) (λ n. (s.held n ≡ false) × IsLeftJournal (left.bytes n)) (left.at sites.new_journal) (λ n is. (is.free, is.is (left.bytes n) (leaves.bytes n)))
+              (tell.journal (left.at sites.new_journal) (subst (MayStand crash s sites.new_journal) (sym new_journal) (moment_may crash s j sites.new_journal j_is)));
+          file = text_as s.held left.bytes (left.at sites.file) (f sites.file) (left.at sites.new_file) (f sites.new_file) (left.at sites.journal) (j sites.journal) (left.at sites.new_journal)
+              (j sites.new_journal) (f_at sites.file refl) new_file (j_at sites.journal refl) new_journal
+              (tell.file f j (record { file = f_is; journal = j_is; one = λ e. ap (λ d. (leaves.at d).0) e }) left.bytes leaves.bytes);
         }
 
 -- ---- the file's new one
@@ -413,7 +443,7 @@ own_making crash w s u was (inr (n, fresh, is)) x may =
       ]
     ]
 
-pub own_now : (crash : Bool) (w : List ℕ) (own : Option ℕ) (s : State) → IsOwn crash w own s → IsOwnNow w own s
+pub own_now : (crash : Bool) (w : List ℕ) (own : Option ℕ) (s : State) → IsOwn crash w own s → (s.at w ≡ None) ⊎ (s.at w ≡ own)
 own_now crash w own s was = was (s.at w) (inl refl)
 
 -- ---- in two folders

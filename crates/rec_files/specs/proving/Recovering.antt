@@ -47,29 +47,12 @@ IsSyncedIn crash folder d s = (p : List ℕ) → folder p ≡ d → (x : Option 
 abbrev pub IsOwn : Bool → List ℕ → Option ℕ → State → Type 0
 IsOwn crash w own s = (x : Option ℕ) → MayStand crash s w x → (x ≡ None) ⊎ (x ≡ own)
 
--- nothing stands there, or what was made there
-abbrev pub IsOwnNow : List ℕ → Option ℕ → State → Type 0
-IsOwnNow w own s = (s.at w ≡ None) ⊎ (s.at w ≡ own)
-
--- what stands at the four places
-pub record Standing : Type 0 where
-  pub file : Option ℕ
-  pub new_file : Option ℕ
-  pub journal : Option ℕ
-  pub new_journal : Option ℕ
-
--- each two of them stand as they stood together at one moment; in one folder all four do
-pub record MayStandSo (crash : Bool) (folder : List ℕ → List ℕ) (sites : Sites) (s : State) (v : Standing)
+-- what stood at one moment in the file's folder and in the journal's: in one folder at the same
+pub record AreTogether (crash : Bool) (folder : List ℕ → List ℕ) (sites : Sites) (s : State) (f j : List ℕ → Option ℕ)
     : Type 0 where
-  pub f : List ℕ → Option ℕ
-  pub j : List ℕ → Option ℕ
-  pub f_is : IsMoment crash s f
-  pub j_is : IsMoment crash s j
+  pub file : IsMoment crash s f
+  pub journal : IsMoment crash s j
   pub one : folder sites.file ≡ folder sites.journal → f ≡ j
-  pub file : v.file ≡ f sites.file
-  pub new_file : v.new_file ≡ f sites.new_file
-  pub journal : v.journal ≡ j sites.journal
-  pub new_journal : v.new_journal ≡ j sites.new_journal
 
 -- no file stands as the new one, and none does beside what is left of the other folder, where there are two
 pub record IsGone (crash : Bool) (folder : List ℕ → List ℕ) (sites : Sites) (s : State) : Type 0 where
@@ -100,15 +83,15 @@ pub record IsAlone (crash : Bool) (sites : Sites) (s : State) : Type 0 where
 -- or one stands beside it, but none without it
 pub record IsBeside (crash : Bool) (folder : List ℕ → List ℕ) (sites : Sites) (s : State) : Type 0 where
   pub journal : HasLeftJournal crash sites s
-  pub file : (v : Standing) → MayStandSo crash folder sites s v
-      → IfSome v.new_file (λ n. (s.held n ≡ false) × IsSome v.new_journal)
+  pub file : (f j : List ℕ → Option ℕ) → AreTogether crash folder sites s f j
+      → IfSome (f sites.new_file) (λ n. (s.held n ≡ false) × IsSome (j sites.new_journal))
 
 -- or where one stands without it, it is told too
 pub record CanTell (crash : Bool) (folder : List ℕ → List ℕ) (sites : Sites) (s : State) : Type 0 where
   pub journal : HasLeftJournal crash sites s
-  pub file : (v : Standing) → MayStandSo crash folder sites s v → (bytes : ℕ → List ℕ)
-      → ((n : ℕ) → MayHold crash s n (bytes n))
-      → IfSome v.new_file (λ n. (s.held n ≡ false) × (IsSome v.new_journal ⊎ IsLeftText bytes v.file n v.journal))
+  pub file : (f j : List ℕ → Option ℕ) → AreTogether crash folder sites s f j → (bytes : ℕ → List ℕ)
+      → ((n : ℕ) → MayHold crash s n (bytes n)) → IfSome (f sites.new_file) (λ n. (s.held n ≡ false)
+      × (IsSome (j sites.new_journal) ⊎ IsLeftText bytes (f sites.file) n (j sites.journal)))
 
 -- what is put as the file comes, by what is put as the journal, after whatever may stand as the file
 abbrev pub NextLasts : Bool → Sites → List ℕ → Option (List ℕ) → State → Type 0

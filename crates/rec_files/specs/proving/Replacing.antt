@@ -1,12 +1,12 @@
 -- The steps in which a file and its journal are replaced.
-use Rattle.std.specs.Prelude.{◌≡◌, ◌≢◌, ◌⊎◌, ℕ, Bool, false, List, Option, Some, None, IfSome, unwrap_or}
+use Rattle.std.specs.Prelude.{◌≡◌, ◌⊎◌, ◌≤◌, ℕ, Bool, true, false, List, length, Option, Some, None, IfSome}
 use Rattle.rec_disk.specs.Disk.{State, Story, Look, Told, AtAnyMoment, renamed, folder_synced}
 use Rattle.rec_disk.specs.Lasting.{Spares}
-use Rattle.rec_disk.specs.proving.Places.{Outlasts, IsSettled, Avoids, Waits}
-use Rattle.rec_tools.specs.Home.{Contents}
-use Rattle.rec_files.specs.OnDisk.{Places, Sites, sites_of, CanSync, AreLeft, IsRead, SparesStrangers, TouchesOwn}
+use Rattle.rec_disk.specs.proving.Places.{Outlasts, IsSettled, Waits}
+use Rattle.rec_tools.specs.Home.{Contents, Write}
+use Rattle.rec_files.specs.OnDisk.{Places, Sites, SecurePut, LastingPut, TouchesOwn, RecoversAt}
 use Rattle.rec_files.specs.OnDisk.{or_empty}
-use Rattle.rec_files.specs.Succeeding.{AreApart, IsAsSeen}
+use Rattle.rec_files.specs.Succeeding.{IsAsSeen}
 
 -- ---- what was read
 
@@ -27,14 +27,6 @@ pub record IsFound (p : List ℕ) (P : ℕ → Type 0) (s : State) (found : Opti
 abbrev pub OnlyWhere : (State → Type 0) → Option Story → Option Story → Type 0
 OnlyWhere P old new = (new ≡ old) ⊎ Told old P
 
--- at any moment all places are spared but one, or but the two working ones
-abbrev pub SparesBut : List ℕ → Option Story → Option Story → Type 0
-SparesBut w old new = (p : List ℕ) → p ≢ w → AtAnyMoment old new (Spares p)
-
-abbrev pub SparesButNew : Sites → Option Story → Option Story → Type 0
-SparesButNew sites old new =
-    (p : List ℕ) → p ≢ sites.new_journal → p ≢ sites.new_file → AtAnyMoment old new (Spares p)
-
 -- both are spared
 abbrev pub AreSpared : Places → State → State → Type 0
 AreSpared p s t = Spares p.file s t × Spares p.journal s t
@@ -44,17 +36,6 @@ AreSpared p s t = Spares p.file s t × Spares p.journal s t
 -- a folder is synced, where it can be
 abbrev pub IsSyncing : (List ℕ → List ℕ) → (List ℕ → Bool) → List ℕ → State → State → Type 0
 IsSyncing folder syncs d s t = (t ≡ folder_synced folder s d) ⊎ ((t ≡ s) × (syncs d ≡ false))
-
--- a new file was made at a working place, and stands nowhere else
-pub record IsMadeAt (w : List ℕ) (n : ℕ) (t : State) : Type 0 where
-  pub at : t.at w ≡ Some n
-  pub elsewhere : (p : List ℕ) → p ≢ w → Avoids t p n
-
--- both new files were made, the journal's first
-pub record AreMade (sites : Sites) (n m : ℕ) (t : State) : Type 0 where
-  pub journal : t.at sites.new_journal ≡ Some n
-  pub file : IsMadeAt sites.new_file m t
-  pub elsewhere : (p : List ℕ) → p ≢ sites.new_journal → p ≢ sites.new_file → Avoids t p n
 
 -- both wait to be put in place
 pub record BothWait (sites : Sites) (journal_bytes file_bytes : List ℕ) (t : State) : Type 0 where
@@ -76,14 +57,6 @@ IsPlaced folder syncs w p s t =
 pub record AreResolved (place leads : List ℕ → List ℕ) (given_file given_journal file journal : List ℕ) : Type 0 where
   pub file_is : place file ≡ leads given_file
   pub journal_is : place journal ≡ leads given_journal
-
--- what holds where a put begins: both are as they were seen
-pub record MayBegin (place leads : List ℕ → List ℕ) (given_file given_journal file journal : List ℕ)
-    (file_seen journal_seen : Option (Option Look)) (s : State) : Type 0 where
-  pub seen : AreAsSeen (record { file = leads given_file; journal = leads given_journal }) file_seen journal_seen s
-  pub left : AreLeft (sites_of place file journal) s
-  pub apart : AreApart (sites_of place file journal)
-  pub resolved : AreResolved place leads given_file given_journal file journal
 
 -- ---- what is seen of the two, whatever is left
 
@@ -126,37 +99,11 @@ led leads file journal = record { file = leads file; journal = leads journal }
 abbrev pub own_of : Sites → Places
 own_of sites = record { file = sites.file; journal = sites.journal }
 
--- from contents that last, at any moment they are in between
-abbrev pub Moments : (List ℕ → List ℕ) → (List ℕ → Bool) → Places → List ℕ → Option (List ℕ) → Option Story
-    → Option Story → Type 0
-Moments folder syncs p journal file old new = (crash : Bool) (c : Contents) → CanSync folder syncs crash p
-    → Told old (LastAs crash p c.file c.journal) → AtAnyMoment old new (λ s u. Between crash p c journal file u)
-
--- and the new ones last
-abbrev pub Persists : (List ℕ → List ℕ) → (List ℕ → Bool) → Places → List ℕ → Option (List ℕ) → Option Story
-    → Option Story → Type 0
-Persists folder syncs p journal file old new = (crash : Bool) (c : Contents) → CanSync folder syncs crash p
-    → Told old (LastAs crash p c.file c.journal) → Told new (LastAs crash p (unwrap_or file c.file) journal)
-
--- what a replace does by the four places; where the journal alone is put, the file is spared
-pub record IsReplacing (folder : List ℕ → List ℕ) (syncs : List ℕ → Bool) (sites : Sites) (journal : List ℕ)
-    (file : Option (List ℕ))
+-- a put by the places of the home, which succeeds or not
+pub record IsPut (place folder : List ℕ → List ℕ) (syncs : List ℕ → Bool) (p : Places) (writes : List Write) (ok : Bool)
     (old new : Option Story) : Type 0 where
-  pub moments : Moments folder syncs (own_of sites) journal file old new
-  pub alone : file ≡ None → AtAnyMoment old new (Spares sites.file)
-  pub strangers : SparesStrangers sites old new
-
--- and a put by the places of the home: from contents that are read, both are spared at first, and then in between
-pub record IsPut (place folder : List ℕ → List ℕ) (syncs : List ℕ → Bool) (p : Places) (journal : List ℕ)
-    (file : Option (List ℕ))
-    (old new : Option Story) : Type 0 where
-  pub moments : (crash : Bool) (c : Contents) → CanSync folder syncs crash p → Told old (IsRead p c)
-      → AtAnyMoment old new (λ s u. AreSpared p s u ⊎ Between crash p c journal file u)
-  pub alone : file ≡ None → AtAnyMoment old new (Spares p.file)
+  pub any_moment : SecurePut folder syncs p writes old new
+  pub lasts : ok ≡ true → LastingPut folder syncs p writes old new
+  pub alone : length writes ≤ 1 → AtAnyMoment old new (Spares p.file)
   pub touches : TouchesOwn place p old new
-
--- the new ones are there, and last
-abbrev pub IsPutForGood : (List ℕ → List ℕ) → (List ℕ → Bool) → Places → List ℕ → Option (List ℕ) → Option Story
-    → Option Story → Type 0
-IsPutForGood folder syncs p journal file old new = (crash : Bool) (c : Contents) → CanSync folder syncs crash p
-    → Told old (IsRead p c) → Told new (LastAs crash p (unwrap_or file c.file) journal)
+  pub recovers : RecoversAt place folder syncs p writes old new

@@ -7,12 +7,13 @@ use Rattle.rec_tools.specs.declared.home.Which.{Which}
 use Rattle.rec_tools.specs.declared.home.Which.TheVariants.{Base, Journal}
 use Rattle.rec_files.specs.declared.steps.Act.{Act}
 use Rattle.rec_files.specs.declared.steps.Act.TheVariants.{Make, Part, Fit, Measure, Look, Write, Keep, Place, Sync}
-use Rattle.rec_files.specs.declared.steps.Act.TheVariants.{SyncLast, Settle, Remove}
+use Rattle.rec_files.specs.declared.steps.Act.TheVariants.{SyncLast, Settle, Remove, Clear}
 use Rattle.rec_files.specs.declared.steps.Step.{Step}
 use Rattle.rec_files.specs.declared.steps.Made.{Made}
 use Rattle.rec_files.specs.declared.target.Target.{Target}
-use Rattle.rec_files.specs.Succeeding.{Known, known, StandsAsSeen}
-use Rattle.rec_files.specs.proving.Replacing.{IsSyncing}
+use Rattle.rec_files.specs.OnDisk.{Sites, sites_of, AreLeft}
+use Rattle.rec_files.specs.Succeeding.{Known, known, AreApart, AreUnchanged, SawRegular, StandsAsSeen}
+use Rattle.rec_files.specs.proving.Replacing.{AreAsSeen, AreResolved, IsSyncing, led}
 use Rattle.rec_files.specs.proving.Succeeding.{CanSettle}
 
 -- the folders of a disk, where its paths lead, and which files are regular ones
@@ -96,6 +97,7 @@ module _ (ways : Ways) (side : Side) where
   Rests Look ok x s = Unit {0}
   Rests Settle ok x s = ok ≡ true → s.at at_of ≡ None
   Rests Remove ok x s = ok ≡ true → IfSome x (λ n. s.at new_of ≢ Some n)
+  Rests Clear ok x s = ok ≡ true → x ≡ None
   Rests _ ok x s = ok ≡ false
 
   -- by that before and after: one state comes after another
@@ -109,7 +111,8 @@ module _ (ways : Ways) (side : Side) where
   Does Place ok x y s t = (y ≡ x) × (t ≡ renamed s new_of at_of)
   Does Sync ok x y s t = (y ≡ x) × IsSyncing ways.folder ways.syncs (ways.folder at_of) s t
   Does SyncLast ok x y s t = (y ≡ x) × IsSyncing ways.folder ways.syncs (ways.folder at_of) s t
-  Does Remove ok x y s t = (y ≡ x) × (t ≡ removed s new_of)
+  Does Remove ok x y s t = t ≡ removed s new_of
+  Does Clear ok x y s t = t ≡ removed s new_of
   Does _ ok x y s t = ⊥
 
   abbrev pub Acts : Act → Bool → Option ℕ → Option ℕ → Option Story → Option Story → Type 0
@@ -130,6 +133,7 @@ module _ (ways : Ways) (side : Side) where
   Needs Place x s = IsSomeAnd x (λ n. CanPlace n s)
   Needs Settle x s = CanSettle ways.place ways.regular side.own s
   Needs Remove x s = ⊥
+  Needs Clear x s = s.at new_of ≡ x
   Needs _ x s = Unit {0}
 
 -- what it checks of the bytes alone
@@ -177,9 +181,13 @@ of_file act = record { 0 = Base; 1 = act }
 abbrev pub of_journal : Act → Step
 of_journal act = record { 0 = Journal; 1 = act }
 
--- both are synced as they were read, and their folders
+-- what was found is removed, the file's first; then both are synced as they were read, and their folders
 abbrev pub settling : List Step
 settling = of_file Settle ∷ of_file Sync ∷ of_journal Settle ∷ of_journal Sync ∷ []
+
+abbrev pub ready : Option ℕ → List Step
+ready (Some n) = of_file Clear ∷ of_file Part ∷ of_journal Clear ∷ settling
+ready None = of_file Clear ∷ settling
 
 -- both are made, then written, and then put in place, the journal first
 abbrev pub both_placed : List Step
@@ -212,3 +220,40 @@ list_for None = alone_made
 abbrev pub removing : Option ℕ → List Step
 removing (Some n) = of_file Remove ∷ of_file Part ∷ of_journal Remove ∷ []
 removing None = of_journal Remove ∷ []
+
+-- ---- a put
+
+-- this stands under the working names, and was left there by a put that was stopped
+pub record AreFound (sites : Sites) (x : Numbers) (s : State) : Type 0 where
+  pub file : s.at sites.new_file ≡ x.file
+  pub journal : s.at sites.new_journal ≡ x.journal
+  pub left : AreLeft sites s
+
+-- what holds where a put begins: both are as they were seen, at the ends of the given paths
+pub record MayBegin (place leads : List ℕ → List ℕ) (given_file given_journal : List ℕ) (file journal : Known)
+    (x : Numbers) (s : State) : Type 0 where
+  pub seen : AreAsSeen (led leads given_file given_journal) file.look journal.look s
+  pub found : AreFound (sites_of place file.path journal.path) x s
+  pub apart : AreApart (sites_of place file.path journal.path)
+  pub resolved : AreResolved place leads given_file given_journal file.path journal.path
+
+module _ (ways : Ways) (task : Task) (file : Option (List ℕ)) where
+  -- what its steps need
+  pub record CanReplace (x : Numbers) (s : State) : Type 0 where
+    pub short : IfSome file (λ bytes. length bytes ≤ 1_073_741_824)
+    pub apart : AreApart (sites_of ways.place task.file.path task.journal.path)
+    pub found : AreFound (sites_of ways.place task.file.path task.journal.path) x s
+    pub unchanged : AreUnchanged ways.place ways.leads ways.regular task.file task.journal s
+    pub is_regular : SawRegular ways.regular task.file.look
+
+  -- both are replaced, or the journal alone; or that fails, and what was made is removed
+  abbrev pub Replaces : Bool → Option Story → Option Story → Type 0
+  Replaces ok old new = (y : Numbers) × (mid : Option Story)
+      × Plays ways task (list_for file) ok (record { file = None; journal = None }) y old mid
+      × ((new ≡ mid) ⊎ ((ok ≡ false)
+      × ((z : Numbers) × (done : Bool) × Plays ways task (removing y.file) done y z mid new)))
+
+  -- after what was found is removed, and both are settled
+  abbrev pub Puts : Numbers → Bool → Option Story → Option Story → Type 0
+  Puts x ok old new = (y : Numbers) × (((ok ≡ false) × Plays ways task (ready x.journal) false x y old new)
+      ⊎ ((mid : Option Story) × Plays ways task (ready x.journal) true x y old mid × Replaces ok mid new))

@@ -1,18 +1,18 @@
 -- What the steps of a read and of a put need, to succeed on a disk that works.
 use Rattle.std.specs.Prelude.{◌≡◌, ◌≢◌, ◌≤◌, ℕ, Bool, true, List, length, Option, Some, None}
 use Rattle.std.specs.Prelude.{IfSome, IsSome, IsSomeAnd, Result, IfErr}
-use Rattle.rec_disk.specs.Disk.{State, Look}
-use Rattle.rec_disk.specs.Paths.{working_name}
+use Rattle.rec_disk.specs.Disk.{State, Story, Look}
 use Rattle.rec_files.specs.Paths.{end_of}
-use Rattle.rec_files.specs.OnDisk.{Sites, sites_of}
-use Rattle.rec_files.specs.Succeeding.{Known, SawRegular, HasSeen, StandsAsSeen, IsUnlocked, AreApart}
+use Rattle.rec_files.specs.OnDisk.{Sites}
+use Rattle.rec_files.specs.Succeeding.{IsTold, Known, SawRegular, HasSeen, StandsAsSeen, IsUnlocked}
 use Rattle.rec_files.specs.Succeeding.{IsRegularAt, IsStanding, IsShort}
-use Rattle.rec_files.specs.proving.Replacing.{AreMade, IsMadeAt}
 
--- A disk that works, before and then after the call; where this is given, the call succeeds,
--- or else it failed for memory.
-abbrev pub Succeeds : {X E : Type 0} → (E → Type 0) → Type 0 → Type 0 → Type 0 → Result X E → Type 0
-Succeeds IsMemory before after given result = before → after × (given → IfErr result IsMemory)
+-- A disk that works does so after the call too; where this holds of what it tells before, the call succeeds, or else it
+-- failed for memory.
+abbrev pub Succeeds : {D X E : Type 0} → (E → Type 0) → (D → Type 0) → (D → Option Story) → D → D → Result X E
+    → (State → Type 0) → Type 0
+Succeeds IsMemory works story old new result Given =
+    works old → works new × (IsTold (story old) Given → IfErr result IsMemory)
 
 -- what was seen stands there, and is a regular file or nothing, and the path leads to its own place
 pub record MayWrite (place leads : List ℕ → List ℕ) (regular : ℕ → Bool) (known : Known) (s : State) : Type 0 where
@@ -34,28 +34,6 @@ pub record CanRead (n : ℕ) (look : Option Look) (s : State) : Type 0 where
 pub record AreFree (sites : Sites) (s : State) : Type 0 where
   pub journal : s.at sites.new_journal ≡ None
   pub file : s.at sites.new_file ≡ None
-
--- both are as they were seen, and nothing stands under their working names; the four are apart
-pub record CanReplace (place leads : List ℕ → List ℕ) (file journal : Known) (s : State) : Type 0 where
-  pub apart : AreApart (sites_of place file.path journal.path)
-  pub free : AreFree (sites_of place file.path journal.path) s
-  pub file_stands : StandsAsSeen place leads file s
-  pub journal_stands : StandsAsSeen place leads journal s
-
--- or both new files stand there
-pub record CanPlace (place leads : List ℕ → List ℕ) (file journal : Known) (new_file new_journal : ℕ) (s : State)
-    : Type 0 where
-  pub apart : AreApart (sites_of place file.path journal.path)
-  pub made : AreMade (sites_of place file.path journal.path) new_journal new_file s
-  pub file_stands : StandsAsSeen place leads file s
-  pub journal_stands : StandsAsSeen place leads journal s
-
--- or that of the journal alone
-pub record CanPlaceJournal (place leads : List ℕ → List ℕ) (file journal : Known) (new : ℕ) (s : State) : Type 0 where
-  pub apart : AreApart (sites_of place file.path journal.path)
-  pub made : IsMadeAt (place (working_name journal.path)) new s
-  pub file_stands : StandsAsSeen place leads file s
-  pub journal_stands : StandsAsSeen place leads journal s
 
 -- it can be opened to be replaced: a regular file after fewer than 40 links in a row
 pub record IsLockable (link : List ℕ → Option (List ℕ)) (regular : ℕ → Bool) (path : List ℕ)

@@ -1,7 +1,6 @@
 use Rattle.std.proofs.Common.{refl}
 use Rattle.std.specs.Prelude.{option_map, string_bytes}
 use Rattle.rec_files.specs.OnDisk.{places_by}
-use Rattle.rec_files.specs.Succeeding.{IsExcused, IsCareful, kept}
 use Rattle.rec_files.proofs.lemmas.Requests.{moves_at}
 use Rattle.rec_files.proofs.running.run_through.Goals as goal
 
@@ -13,12 +12,8 @@ returns g c =
         answers,
         ends,
         (calls, printed, silent, done),
-        moves_at g.D.Disk.place g.D.Disk.folder g.D.Disk.syncs (λ home. places_by g.D.Disk.leads (option_map string_bytes home.file) (string_bytes home.journal)) (λ home. g.D.Disk.story home.disk)
-            (λ home. home.failed)
-            (λ old call new. IsExcused g.D.Disk.place g.D.Disk.leads g.D.Disk.link g.D.Disk.regular (kept g.D.Disk.number g.D.Disk.tells old)
-            (g.D.Disk.works old.disk) (g.D.Disk.works new.disk) new.failure (g.D.Disk.story old.disk) call
-            × IsCareful g.D.Disk.leads g.D.Disk.regular (kept g.D.Disk.number g.D.Disk.tells old) (kept g.D.Disk.number g.D.Disk.tells new) (g.D.Disk.story old.disk) call (g.D.Disk.story new.disk))
-            c.stops_are_steps.ensures.stops c.args.direction c.args.number c.args.home.now c.run_through.new.home
+        moves_at g.D.Disk.place g.D.Disk.leads g.D.Disk.link g.D.Disk.folder g.D.Disk.syncs g.D.Disk.regular g.D.Disk.number g.D.Disk.tells g.D.Disk.story
+            g.D.Disk.works c.stops_are_steps.ensures.stops c.args.direction c.args.number c.args.home.now c.run_through.new.home
             (places_by g.D.Disk.leads (option_map string_bytes c.args.home.now.file) (string_bytes c.args.home.now.journal)) refl answers calls printed done,
       );
     }

@@ -1,4 +1,4 @@
-use Rattle.std.proofs.Common.{◌≡◌, ℕ, Bool, Option, take, drop}
+use Rattle.std.proofs.Common.{Bool, Option, take, drop}
 use Rattle.std.specs.List.{AllByRecursion}
 use Rattle.rec_disk.specs.Disk.{Story}
 use Rattle.rec_files.specs.Succeeding.{IsTold}

@@ -4,7 +4,6 @@ use Rattle.std.specs.Result.{is_ok}
 use Rattle.rec_tools.specs.declared.home.Which.TheVariants.{Base, Journal}
 use Rattle.rec_files.specs.proving.Steps.{numbers, task_of, ways_of}
 use Rattle.rec_files.proofs.lemmas.Playing.{needs_of, takes_file, takes_journal}
-use Rattle.rec_files.proofs.lemmas.Played.{can_play}
 use Rattle.rec_files.proofs.steps.take.Goals as goal
 
 pub returns-in-Base-clause-takes : goal.returns-in-Base-clause-takes

@@ -1,5 +1,5 @@
 use Rattle.std.specs.Prelude.{option_copied, option_map, string_bytes}
-use Rattle.std.proofs.Common.{refl, ◌∙◌, ap}
+use Rattle.std.proofs.Common.{refl, ◌∙◌, ap, true, false}
 use Rattle.rec_tools.specs.Home.{writes_by, put_all}
 use Rattle.rec_files.specs.OnDisk.{places_by}
 use Rattle.rec_files.specs.Succeeding.{IsExcused, IsCareful, kept, known}
@@ -14,8 +14,7 @@ returns-in-Ok-clause-call g c = rw (← c.disk.view_is) (
   refl,
   (
     put_done g.D.Disk.place g.D.Disk.folder g.D.Disk.syncs g.D.Disk.leads c.args.journal.now (option_copied c.args.file) (string_bytes c.args.self.now.journal) c.path_in.result.now c.as_str.result.now
-        _ _ _ _ c.put.ensures.moments c.put.ensures.alone c.put.ensures.touches c.put.ensures.recovers
-        (option_map string_bytes c.args.self.now.file) (c.path_in.ensures, c.as_str.ensures.value) c.in-Ok.ensures.lasts refl,
+        _ _ _ _ true c.in-Ok.ensures.goes (option_map string_bytes c.args.self.now.file) (c.path_in.ensures, c.as_str.ensures.value) refl refl,
     (
       record {
         works_still = λ works. (c.put.ensures.succeeds works).0;
@@ -71,5 +70,5 @@ returns-in-Err-clause-call g c =
       },
     ))
     (put_failed g.D.Disk.place g.D.Disk.folder g.D.Disk.syncs g.D.Disk.leads c.args.journal.now (option_copied c.args.file) (string_bytes c.args.self.now.journal) c.path_in.result.now
-    c.as_str.result.now _ _ _ _ c.put.ensures.moments c.put.ensures.alone c.put.ensures.touches c.put.ensures.recovers
+    c.as_str.result.now _ _ _ _ false c.in-Err.ensures.goes
     (option_map string_bytes c.args.self.now.file) (c.path_in.ensures, c.as_str.ensures.value) (λ k. (c.fail.ensures.counted, c.fail.ensures.once))))

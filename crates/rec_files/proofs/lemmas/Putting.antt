@@ -1,0 +1,126 @@
+-- What a put promises, by the paths as they were given.
+use Rattle.std.proofs.Common.{◌≡◌, ◌∙◌, inl, inr, ℕ, ◌≤◌, Bool, true, List, length, Option, Some, None, IfSome, refl, sym, ap, subst}
+use Rattle.rec_disk.specs.Disk.{State, Story, Told}
+use Rattle.rec_disk.specs.Lasting.{Spares}
+use Rattle.rec_disk.proofs.lemmas.Moments.{told_so}
+use Rattle.rec_disk.proofs.lemmas.Calls.{spares_still}
+use Rattle.rec_tools.specs.Home.{Write, written, writes_by}
+use Rattle.rec_files.specs.OnDisk.{Places, AreTold, Holds, IsSecure, LastingPut, or_empty}
+use Rattle.rec_files.specs.Succeeding.{AreApart, CanPrepare, IsAsSeen, IsTold, Known}
+use Rattle.rec_files.specs.proving.Replacing.{AreAsSeen, AreResolved, IsPut, led}
+use Rattle.rec_files.specs.proving.Steps.{Ways, Task, Numbers, AreFound, CanReplace, MayBegin, Puts}
+use Rattle.rec_files.proofs.lemmas.Telling.{tell_all, told_tell}
+use Rattle.rec_files.proofs.lemmas.Home.{last_written, no_file, secure_still, then_secure}
+use Rattle.rec_files.proofs.lemmas.Replacing.{weaker_moments}
+use Rattle.rec_files.proofs.lemmas.Recovering.{recovers_by}
+use Rattle.rec_files.proofs.lemmas.Succeeding.{same_told, told_with}
+use Rattle.rec_files.proofs.lemmas.Playing.{since_start}
+use Rattle.rec_files.proofs.lemmas.Promises.{Four, Two}
+use Rattle.rec_files.proofs.lemmas.Played.{IsLast, IsSafe, none_put, safe_put}
+
+-- nothing is changed
+pub put_still : (place folder : List ℕ → List ℕ) (syncs : List ℕ → Bool) (p : Places) (writes : List Write) (ok : Bool) (o n : Option Story) → n ≡ o
+    → (ok ≡ true → LastingPut folder syncs p writes o n) → IsPut place folder syncs p writes ok o n
+put_still place folder syncs p writes ok o n same lasts = record {
+  any_moment = secure_still folder syncs p writes o n same;
+  lasts = lasts;
+  alone = λ one. spares_still p.file o n same;
+  touches = inl same;
+  recovers = inl same;
+}
+
+pub begun : (place leads : List ℕ → List ℕ) (given_file given_journal : List ℕ) (file journal : Known) (x : Numbers) (o : Option Story)
+    → Told o (MayBegin place leads given_file given_journal file journal x) → Told o (AreAsSeen (led leads given_file given_journal) file.look journal.look)
+begun place leads given_file given_journal file journal x o begins =
+    told_so (MayBegin place leads given_file given_journal file journal x) (AreAsSeen (led leads given_file given_journal) file.look journal.look) o (λ s may. may.seen) begins
+
+module _ (ways : Ways) (given_file given_journal : List ℕ) (task : Task) (file : Option (List ℕ)) (x : Numbers) where
+  abbrev pub Begins : State → Type 0
+  Begins = MayBegin ways.place ways.leads given_file given_journal task.file task.journal x
+
+  abbrev Given : Places
+  Given = led ways.leads given_file given_journal
+
+  abbrev Writes : List Write
+  Writes = writes_by task.journal_bytes file
+
+  pub may_begin : (o : Option Story) → Told o (AreFound (Four ways task) x) → Told o (λ s. AreApart (Four ways task))
+      → Told o (λ s. AreResolved ways.place ways.leads given_file given_journal task.file.path task.journal.path)
+      → Told o (AreAsSeen (led ways.place task.file.path task.journal.path) task.file.look task.journal.look) → Told o Begins
+  may_begin None found apart resolved seen = tt
+  may_begin (Some a) found apart resolved seen = record {
+    seen = (
+      subst (λ p. IsAsSeen p task.file.look a.now) resolved.file_is seen.0,
+      subst (λ p. IsAsSeen p task.journal.look a.now) resolved.journal_is seen.1,
+    );
+    found = found;
+    apart = apart;
+    resolved = resolved;
+  }
+
+  -- what it needs, where this was found
+  pub may_replace : (link : List ℕ → Option (List ℕ)) (o b : Option Story) → b ≡ o
+      → IsTold o (λ s. IfSome file (λ bytes. length bytes ≤ 1_073_741_824) × CanPrepare ways.place ways.leads link ways.regular given_file given_journal task.file task.journal s)
+      → Told o Begins → IsTold b (CanReplace ways task file x)
+  may_replace link o b same given begins =
+      same_told (CanReplace ways task file x) o b same
+      (told_with (λ s. IfSome file (λ bytes. length bytes ≤ 1_073_741_824) × CanPrepare ways.place ways.leads link ways.regular given_file given_journal task.file task.journal s) Begins
+      (CanReplace ways task file x) o
+      (λ s can may. record { short = can.0; apart = may.apart; found = may.found; unchanged = can.1.unchanged; is_regular = can.1.is_regular }) given begins)
+
+  own_given : (s : State) → Begins s → Two ways task ≡ Given
+  own_given s may = ap (λ q. led (λ r. r) q (ways.place task.journal.path)) may.resolved.file_is ∙ ap (λ q. led (λ r. r) (ways.leads given_file) q) may.resolved.journal_is
+
+  module _ (is_file : task.file_bytes ≡ or_empty file) (ok : Bool) (short : length task.journal_bytes ≤ 1_073_741_824) where
+    put_at : (a : Story) (n : Option Story) → Begins a.now → Puts ways task file x ok (Some a) n → IsPut ways.place ways.folder ways.syncs (Two ways task) Writes ok (Some a) n
+    put_at a n may puts =
+        let Safe : State → Type 0 = IsSafe ways task file x is_file may.apart a may.found in
+        let safe = safe_put ways task file x is_file may.apart a may.found ok n puts in
+        record {
+          any_moment = λ crash c can read.
+              since_start (IsSecure crash (Two ways task) c Writes) a n
+              (weaker_moments Safe (λ u. IsSecure crash (Two ways task) c Writes a.now u) (Some a) n
+              (λ u is. then_secure crash (Two ways task) c task.journal_bytes file a.now u (is.between crash c (record { can = can; read = read }))) safe.0);
+          lasts = λ fine crash c can read.
+              told_so (IsLast ways task file x is_file may.apart a may.found) (Holds crash (Two ways task) (written c Writes)) n
+              (λ u last. last_written crash (Two ways task) c task.journal_bytes file u (last crash c (record { can = can; read = read }))) (safe.1 fine);
+          alone = λ one.
+              since_start (Spares (Two ways task).file) a n
+              (weaker_moments Safe (λ u. Spares (Two ways task).file a.now u) (Some a) n (λ u is. is.alone (no_file task.journal_bytes file one)) safe.0);
+          touches = inr (
+            task.file.path,
+            task.journal.path,
+            refl,
+            refl,
+            may.found.left,
+            λ q ne_file ne_journal ne_new_file ne_new_journal.
+                since_start (Spares q) a n
+                (weaker_moments Safe (λ u. Spares q a.now u) (Some a) n (λ u is. is.strangers q ne_file ne_journal ne_new_file ne_new_journal) safe.0),
+          );
+          recovers = inr (
+            task.file.path,
+            task.journal.path,
+            (refl, refl),
+            recovers_by (Four ways task) task.journal_bytes ways.folder ways.syncs file (Some a) n
+                (λ crash can begins next told.
+                weaker_moments Safe (AreTold crash ways.folder (Four ways task)) (Some a) n
+                (λ u is. tell_all crash ways.folder (Four ways task) (λ e. (can e).0) u (is.tell crash (record {
+                  can = can;
+                  begins = begins;
+                  short = short;
+                  next = next;
+                  tell = told_tell crash ways.folder (Four ways task) (λ e. (can e).0) a.now told;
+                }))) safe.0),
+          );
+        }
+
+    put_on : (o n : Option Story) → Told o Begins → Puts ways task file x ok o n → IsPut ways.place ways.folder ways.syncs Given Writes ok o n
+    put_on None n begins puts =
+        let same = none_put ways task file x ok n puts in
+        put_still ways.place ways.folder ways.syncs Given Writes ok None n same
+        (λ fine crash c can read. subst (λ n. Told n (Holds crash Given (written c Writes))) (sym same) tt)
+    put_on (Some a) n may puts =
+        subst (λ p. IsPut ways.place ways.folder ways.syncs p Writes ok (Some a) n) (own_given a.now may) (put_at a n may puts)
+
+    pub is_put : (o b n : Option Story) → b ≡ o → Told o Begins → Puts ways task file x ok b n → IsPut ways.place ways.folder ways.syncs Given Writes ok o n
+    is_put o b n same begins puts = put_on o n begins (subst (λ b. Puts ways task file x ok b n) same puts)

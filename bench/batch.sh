@@ -1,6 +1,6 @@
 #!/usr/bin/env bash
 # Times and peak memory of batches, beside sha256sum of the same file and one edit of it.
-#     bench/batch.sh [PROGRAM [RECORDS..]]      (1,000 records or more; 7,000 have 1 MB)
+#     bench/batch.sh [PROGRAM [RECORDS..]]      (2,000 records or more; 7,000 have 1 MB)
 # Prints a table: the least of three times (one for 10,000 edits), the peak memory, and the time as a multiple of sha256sum's;
 # and what an edit of a batch takes, in microseconds.
 # The files lie in a temporary folder (TMPDIR chooses where); recu waits until the disk has what it wrote.
@@ -39,6 +39,8 @@ for size in "${sizes[@]}"; do
     seq 0 $((size / 1000)) "$last" | head -n 1000 | each 'Tool: recset\nType: Contact\nNumber: &\nFields: Street\nSet: & Short Road' >edits.rec
     batch 3 '1,000 recset -n' 1000
     measure 3 made 'recu undo of it' "$program" undo db.rec
+    seq 0 $((size / 2000)) "$last" | head -n 2000 | each 'Tool: recset\nType: Contact\nNumber: &\nFields: Street\nSet: & Short Road' >edits.rec
+    batch 3 '2,000 recset -n' 2000
     seq 1000001 $((1000000 + size)) | head -n 1000 | each 'Tool: recset\nType: Contact\nExpression: Id = &\nFields: Street\nSet: Short Road' >edits.rec
     batch 3 '1,000 recset -e' 1000
     seq 1 1000 | each 'Tool: recins\nType: Contact\nField: Name\nValue: N&\nField: Mail\nValue: n&@example.org' >edits.rec

@@ -1,6 +1,6 @@
 #!/usr/bin/env bash
-# Times and peak memory of edits of keyed record sets, beside GNU's tools (where they are installed), cp and two sha256sum of the
-# same file.
+# Times and peak memory of edits of keyed record sets, and of the same records without a type, beside GNU's tools (where they are
+# installed), cp and two sha256sum of the same file.
 #     bench/edit.sh [PROGRAM [RECORDS..]]
 # Prints a table: the least of three times (one for GNU's, at 10,000 records at most), the peak memory, and the time as a multiple
 # of that of the two sha256sum; and the nanoseconds of recu for each record.
@@ -10,7 +10,7 @@ set -u
 [ $# -gt 0 ] || sizes=(10000 100000 1000000)
 
 fresh() {
-    cp whole.rec db.rec
+    cp "$from" db.rec
     rm -f db.rec.journal
 }
 
@@ -40,8 +40,8 @@ unnumbered() {
 }
 
 two_digests() {
-    sha256sum whole.rec
-    sha256sum whole.rec
+    sha256sum "$from"
+    sha256sum "$from"
 }
 
 export -f two_digests twenty
@@ -54,8 +54,11 @@ edit() {
 
 for size in "${sizes[@]}"; do
     awk -f "$here/keyed.awk" -v records="$size" >whole.rec
+    sed '1,/^$/d' whole.rec >plain.rec
     last=$((size - 1))
-    export program last
+    half=0-$((size / 2 - 1))
+    from=whole.rec
+    export program last from
     every=$((size < 10000 ? 1 : size / 10000))
     printf '%s records, %s bytes %38s\n' "$size" "$(stat -c %s whole.rec)" 'times two sha256sum'
     unit=
@@ -64,6 +67,8 @@ for size in "${sizes[@]}"; do
     edit 'recins, automatic Id' recins -t Contact -f Name -v New -f Mail -v n@example.org
     edit 'recins -n, in place' recins -t Contact -n 5 -f Id -v 9999999 -f Name -v New -f Mail -v n@example.org
     edit 'recset -e, one field' recset -t Contact -e "Id = 1000005" -f Street -s 'Short Road'
+    edit 'recset -n, first half' recset -t Contact -n "$half" -f Street -s 'Short Road'
+    edit 'recset -e, every second' recset -t Contact -e 'Id % 2 = 0' -f Street -s 'Short Road'
     edit 'recset, all records' recset -t Contact -f Street -s 'Short Road'
     edit 'recset, last record' recset -t Contact -n "$last" -f Street -s 'Short Road'
     edit 'recdel -n, one' recdel -t Contact -n 5
@@ -80,4 +85,16 @@ for size in "${sizes[@]}"; do
         measure 1 fresh 'GNU recset, all records' recset -t Contact -f Street -s 'Short Road' db.rec
         measure 1 fresh 'GNU recdel -n, one' recdel -t Contact -n 5 db.rec
     fi
+    from=plain.rec
+    printf 'without a type, %s bytes %41s\n' "$(stat -c %s plain.rec)" 'times two sha256sum'
+    unit=
+    measure 3 as_is 'two sha256sum' bash -c two_digests
+    edit 'recins' recins -f Name -v New -f Mail -v n@example.org
+    edit 'recset -n, one' recset -n 5 -f Street -s 'Short Road'
+    edit 'recset -n, first half' recset -n "$half" -f Street -s 'Short Road'
+    edit 'recset -e, every second' recset -e 'Id % 2 = 0' -f Street -s 'Short Road'
+    edit 'recset, all records' recset -f Street -s 'Short Road'
+    edit 'recdel -n, one' recdel -n 5
+    edit 'recdel -n, first half' recdel -n "$half"
+    edit 'recdel -c -n, first half' recdel -c -n "$half"
 done

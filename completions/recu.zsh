@@ -91,8 +91,8 @@ _recu() {
     done
     case $tool/$stands_after in
         revert/* | show/yes) specs+=(':N:_recu_numbers' ':FILE:_files') ;;
-        # (N may be left out)
-        show/) specs+=(':FILE:_files' '::FILE:_files') ;;
+        # (what stands before FILE may be left out)
+        show/ | adopt/*) specs+=(':FILE:_files' '::FILE:_files') ;;
         forget/*) specs+=(':N: ' ':FILE:_files') ;;
         *) specs+=(':FILE:_files') ;;
     esac

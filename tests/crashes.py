@@ -10,11 +10,14 @@ import subprocess
 import sys
 import tempfile
 
-REQUESTS = 6
+REQUESTS = 7
 FORGETTING = 4
+ADOPTION = 5
 TEXT = b"A: 1\n\nA: 2\n"
 # undo of all leads there once the first edit was forgotten
 FIRST = b"A: 5\n\nA: 2\n"
+# another program saves this before the adoption, and until it is done undo of all leads there
+SAVED = b"A: 6\n"
 PATHS = {"1": ("db.rec", "db.rec.journal"), "2": ("a/db.rec", "b/db.rec.journal")}
 
 # What a word of the story does, to which names, and the bytes that it writes.
@@ -87,6 +90,10 @@ class Disk:
         else:
             wrong("what is this change?", change)
 
+    def save(self, path, content):
+        """Another program does, for good."""
+        self.contents[self.names()[path]] = content
+
     def rename(self, before, after):
         """At one moment, in one folder."""
         moments = self.moments[folder_of(before)]
@@ -143,10 +150,18 @@ class Trial:
         done = self.run("history", "--patch")
         return Found(self.text(), done.stdout) if done.returncode == 0 else None
 
+    def said_of(self, first):
+        """What is said of the next edit: over what another program saved it begins a new history."""
+        if first != SAVED:
+            return b""
+        file, journal = (path.encode() for path in self.paths)
+        elsewhere = b"%s: it may be the journal of another file\n" % journal if journal != file + b".journal" else b""
+        return b"%s: it was changed outside; 1 edit before that can't be undone any more\n" % file + elsewhere
+
     def goes_on(self, first):
         """The next edit is made, and undo of all leads to the first text; returns what is wrong."""
         made = self.run("recins", "-f", "B", "-v", "3")
-        if made.returncode != 0 or made.stdout or made.stderr:
+        if made.returncode != 0 or made.stdout or made.stderr != self.said_of(first):
             return made.stderr
         undone = self.run("undo")
         while undone.returncode == 0:
@@ -159,7 +174,10 @@ class Trial:
         return None if names == set(self.paths) else sorted(names)
 
 
-def first_text(made):
+def first_text(made, number):
+    """Where undo of all leads once this number of requests were made, the next or the last of which is this one."""
+    if made == number == ADOPTION:
+        return SAVED
     return TEXT if made <= FORGETTING else FIRST
 
 
@@ -182,7 +200,7 @@ def crash(trial, disk, changes, number):
         found = trial.found()
         if found not in (before, after):
             wrong(f"request {number}, a crash after {change}: the history is lost", found, *left)
-        why = trial.goes_on(first_text(number if found == before else number + 1))
+        why = trial.goes_on(first_text(number if found == before else number + 1, number))
         if why is not None:
             wrong(f"request {number}, a crash after {change}: it doesn't go on", why, *left)
     return len(lefts)
@@ -194,6 +212,8 @@ def main():
     for folders, paths in PATHS.items():
         disk = Disk(paths)
         for number in range(REQUESTS):
+            if number == ADOPTION:
+                disk.save(paths[0], SAVED)
             with tempfile.TemporaryDirectory() as at:
                 crashes += crash(Trial(program, paths, at), disk, list(story(stories, number, folders)), number)
             disk.settle()

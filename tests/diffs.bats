@@ -190,7 +190,7 @@ NAMES
 }
 
 @test "what can't be shown" {
-    local outside='f: if the text of the last edit is brought back to the byte, it can be undone; the next edit begins a new history'
+    local outside='f: recu adopt OLD f makes the change an edit, OLD being the text before it or any of the history¶f: else the next edit begins a new history'
     put f 'A: 1¶'
     explains 'f.journal: no edit is left to undo' 'nothing to undo' show f
     explains 'f.journal: it has no edit' 'no such edit' show 1 f

@@ -52,7 +52,7 @@ explained() {
     put f 'A: 1¶'
     does recset -f A -s 2 f
     put f 'A: 3¶'
-    local said='f: if the text of the last edit is brought back to the byte, it can be undone; the next edit begins a new history'
+    local said='f: recu adopt OLD f makes the change an edit, OLD being the text before it or any of the history¶f: else the next edit begins a new history'
     explains "$said" 'the file was changed outside' undo f
     explains "$said" 'the file was changed outside' redo f
     explains "$said¶f.journal: deleting this file removes all texts that it holds" 'the file was changed outside' forget 0 f
@@ -75,7 +75,7 @@ explained() {
     does redo f
     # the file was changed too, and this is told first
     put f 'A: 7¶'
-    explains 'f: if the text of the last edit is brought back to the byte, it can be undone; the next edit begins a new history' 'the file was changed outside' undo f
+    explains 'f: recu adopt OLD f makes the change an edit, OLD being the text before it or any of the history¶f: else the next edit begins a new history' 'the file was changed outside' undo f
     # without the journal the history begins anew
     mv f.journal away
     does recset -f A -s 2 f

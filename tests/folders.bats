@@ -398,9 +398,12 @@ all_noted() {
     noted 2 "$1" undo "${words[@]}"
     noted 3 "$1" redo "${words[@]}"
     noted 4 "$1" forget 1 "${words[@]}"
+    put "${words[-1]}" 'A: 6¶'
+    put changes 'A: 5¶¶A: 2¶'
+    noted 5 "$1" adopt changes "${words[@]}"
     put changes 'Tool: recins¶Field: B¶Value: 3¶'
-    noted 5 "$1" batch -b changes "${words[@]}"
-    [ "$("$stories" log 6 "$1")" = 'usage: rec_crashes [log NUMBER FOLDERS]' ] || fail 'there is a request more'
+    noted 6 "$1" batch -b changes "${words[@]}"
+    [ "$("$stories" log 7 "$1")" = 'usage: rec_crashes [log NUMBER FOLDERS]' ] || fail 'there is a request more'
 }
 
 @test "what is done to files is what is noted on a disk in memory" {

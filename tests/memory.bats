@@ -313,6 +313,41 @@ is_forgotten() {
     fast each_allocation is_forgotten forget 1 db.rec
 }
 
+@test "memory for an adoption" {
+    mkdir start
+    put start/db.rec 'A: 1¶'
+    (cd start && "$program" recset -f A -s 2 db.rec && "$program" recset -f A -s 3 db.rec)
+    put start/db.rec 'A: 3¶# x¶'
+    put old 'A: 2¶'
+    cp -r start after
+    (cd after && "$program" adopt ../old db.rec)
+    ! cmp -s start/db.rec.journal after/db.rec.journal || fail 'nothing was adopted'
+    fast each_allocation is_forgotten adopt old db.rec
+}
+
+# is_told_of_the_end WORD..: judges a run of an adoption that is refused
+is_told_of_the_end() {
+    cmp -s db.rec start/db.rec && cmp -s db.rec.journal start/db.rec.journal || wrong 'it was changed'
+    case "$status/$(tail -n 1 err)" in
+        '1/recu: not the text before the change')
+            if [ -e hit ]; then [ "$(wc -l < err)" -le 2 ]; else cmp -s err said; fi || wrong 'something else is said'
+            ;;
+        '1/recu: out of memory' | 1/ | '1/recu: a file could not be read or written') ;;
+        *) wrong 'no such end' ;;
+    esac
+    [ ! -e db.rec.new ] && [ ! -e db.rec.journal.new ] || wrong 'a working file is left'
+}
+
+@test "memory for an adoption that is refused" {
+    mkdir start
+    put start/db.rec 'A: 1¶'
+    (cd start && "$program" recset -f A -s 2 db.rec)
+    put start/db.rec 'A: 2¶# x¶'
+    put old 'A: 9¶'
+    put said "old: no text of the history of db.rec, which ends with that of SHA-256 $(printf 'A: 2\n' | sha256sum | cut -d ' ' -f 1)¶recu: not the text before the change¶"
+    fast each_allocation is_told_of_the_end adopt old db.rec
+}
+
 # is_printed WORD..: judges a run that prints the file printed, and ends with the status $wanted
 is_printed() {
     case "$status/$(tail -n 1 err)" in

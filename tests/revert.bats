@@ -3,7 +3,7 @@
 load helpers
 
 refusal='a later edit changed the same lines'
-outside='db.rec: if the text of the last edit is brought back to the byte, it can be undone; the next edit begins a new history'
+outside='db.rec: recu adopt OLD db.rec makes the change an edit, OLD being the text before it or any of the history¶db.rec: else the next edit begins a new history'
 
 # digest TEXT
 digest() {

@@ -35,10 +35,11 @@ begin() {
     mkdir "$BATS_TEST_TMPDIR/bin"
     ln -s "$program" "$BATS_TEST_TMPDIR/bin/recu"
     export PATH=$BATS_TEST_TMPDIR/bin:$PATH GIT_CONFIG_GLOBAL=/dev/null GIT_CONFIG_NOSYSTEM=1
+    export GIT_AUTHOR_NAME=recu GIT_AUTHOR_EMAIL=recu@localhost GIT_COMMITTER_NAME=recu GIT_COMMITTER_EMAIL=recu@localhost
     cp "$top"/sample/* .
     git init -q
     git add .
-    git -c user.name=recu -c user.email=recu@localhost commit -q -m sample
+    git commit -q -m sample
 }
 
 # sessions DOCUMENT: runs them, one after another in one folder. A file that `cat` shows and that isn't there is made, of

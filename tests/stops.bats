@@ -1,4 +1,4 @@
-# An edit, a batch, an undo, a redo, several of them, a first edit and forgetting, whose calls of the system fail or find no room,
+# An edit, a batch, an undo, a redo, several of them, a first edit, forgetting and an adoption, whose calls of the system fail or find no room,
 # or at which the program ends: the next command finds the history before or the one after, of several moves the one after some of
 # them, and both contents are whole. A file system without room, a file of
 # several MB, and a closed pipe. A loop over the numbers of calls.c ends with a run that has no such call.
@@ -48,7 +48,7 @@ state() {
 # The words of each command, its contents before and after, and the first text. The file `rest` has what follows the field.
 # Several moves pass the states that `passed` names.
 prepare() {
-    local digit events first=1
+    local digit events adopted first=1
     passed=()
     [ -e rest ] || put rest '¶B: 2¶¶C: 3¶'
     for digit in 1 8 9; do
@@ -117,6 +117,14 @@ prepare() {
             events=$(edit 1 1 8 'A: 1' 'A: 8')$(edit 2 8 9 'A: 8' 'A: 9')$(move 3 undo 2 9 8)
             state before 8 "$header$events" 'done 1 recset¶undone 2 recset¶'
             state after 8 "$header$(edit 1 8 9 'A: 8' 'A: 9')$(move 2 undo 1 9 8)" 'undone 1 recset¶'
+            ;;
+        adopt)
+            words=(adopt old)
+            cp 8 old
+            events=$header$(edit 1 1 8 'A: 1' 'A: 8')
+            state before 9 "$events" 'drifted¶'
+            adopted=$(edit 2 8 9 'A: 8' 'A: 9')
+            state after 9 "$events${adopted/recset/adopt}" 'done 1 recset¶done 2 adopt¶'
             ;;
     esac
     mv "$first" first.rec
@@ -266,6 +274,10 @@ each_call() {
     fast each_call forget_redone 5
 }
 
+@test "each call of an adoption fails" {
+    fast each_call adopt 5
+}
+
 @test "there is no room at each call of a first edit" {
     fast each_call first 28
 }
@@ -294,6 +306,10 @@ each_call() {
 @test "there is no room at each call of forgetting" {
     fast each_call forget 28
     fast each_call forget_redone 28
+}
+
+@test "there is no room at each call of an adoption" {
+    fast each_call adopt 28
 }
 
 @test "the program ends at each call of a first edit" {
@@ -326,16 +342,20 @@ each_call() {
     fast each_call forget_redone end
 }
 
+@test "the program ends at each call of an adoption" {
+    fast each_call adopt end
+}
+
 @test "each call in two folders fails" {
     local command folders=2
-    for command in first edit undo undo_through forget; do
+    for command in first edit undo undo_through forget adopt; do
         fast each_call "$command" 5
     done
 }
 
 @test "the program ends at each call in two folders" {
     local command folders=2
-    for command in first edit undo undo_through forget; do
+    for command in first edit undo undo_through forget adopt; do
         fast each_call "$command" end
     done
 }
@@ -353,7 +373,7 @@ each_half() {
     for command in undo_through redo_through; do
         fast each_half "$command" 4
     done
-    for command in forget forget_redone; do
+    for command in forget forget_redone adopt; do
         fast each_half "$command" 1
     done
 }

@@ -160,7 +160,7 @@ stays() {
 }
 
 @test "the other refusals come before anything is done too" {
-    local outside='db.rec: if the text of the last edit is brought back to the byte, it can be undone; the next edit begins a new history'
+    local outside='db.rec: recu adopt OLD db.rec makes the change an edit, OLD being the text before it or any of the history¶db.rec: else the next edit begins a new history'
     put db.rec 'A: 4¶'
     stays 'db.rec.journal: no edit is left to undo' 'nothing to undo' undo --through 1 db.rec
     only db.rec
@@ -244,7 +244,7 @@ as_single() {
 }
 
 @test "a dry run of several moves is refused as they are, before anything is printed" {
-    local outside='db.rec: if the text of the last edit is brought back to the byte, it can be undone; the next edit begins a new history'
+    local outside='db.rec: recu adopt OLD db.rec makes the change an edit, OLD being the text before it or any of the history¶db.rec: else the next edit begins a new history'
     begin
     stays 'db.rec.journal: edits 1 to 3 can be undone' 'no such edit' undo --dry-run --through 4 db.rec
     stays 'db.rec: no edit was undone' 'nothing to redo' redo --dry-run --through 1 db.rec
@@ -542,7 +542,7 @@ forgets() {
 }
 
 @test "a save of another program between two moves is noticed" {
-    local outside='db.rec: if the text of the last edit is brought back to the byte, it can be undone; the next edit begins a new history'
+    local outside='db.rec: recu adopt OLD db.rec makes the change an edit, OLD being the text before it or any of the history¶db.rec: else the next edit begins a new history'
     begin
     between flock 5 put db.rec 'A: 8¶'
     ends_so 1 "undone: edit 3¶$outside¶recu: the file was changed outside¶" ''

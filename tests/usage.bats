@@ -19,9 +19,9 @@ silent() {
 
 @test "help" {
     local words
-    for words in --help -h help 'help recins' 'help recdel' 'help recset' 'help batch' 'help undo' 'help redo' 'help revert' 'help history' 'help show' 'help forget' \
+    for words in --help -h help 'help recins' 'help recdel' 'help recset' 'help batch' 'help undo' 'help redo' 'help revert' 'help adopt' 'help history' 'help show' 'help forget' \
         'recins --help' 'recins -h' 'recdel --help' 'recdel -h' 'recset --help' 'recset -h' 'batch --help' 'batch -h' 'undo --help' 'undo -h' \
-        'undo f -hx' 'redo --help' 'redo -h' 'revert --help' 'revert -h' 'revert 1 -h' 'history --help' 'history -h' 'show --help' 'show -h' 'show 1 f -h' \
+        'undo f -hx' 'redo --help' 'redo -h' 'revert --help' 'revert -h' 'revert 1 -h' 'adopt --help' 'adopt -h' 'adopt a b -h' 'history --help' 'history -h' 'show --help' 'show -h' 'show 1 f -h' \
         'forget --help' 'forget -h' 'forget 1 -h'; do
         recu 0 $words
         out | grep -q 'Usage: recu' || fail "recu $words prints no usage"
@@ -45,7 +45,7 @@ silent() {
     done
     for words in 'recsel --version' 'recsel -V' 'recinf --version' 'recinf -V' 'recfix --version' 'recfix -V' \
         'recins --version' 'recins -V' 'recdel --version' 'recdel -V' 'recset --version' 'recset -V' 'batch --version' 'batch -V' 'undo --version' \
-        'undo -V' 'redo --version' 'redo -V' 'revert --version' 'revert -V' 'history --version' 'history -V' 'show --version' 'show -V' 'forget --version' 'forget -V'; do
+        'undo -V' 'redo --version' 'redo -V' 'revert --version' 'revert -V' 'adopt --version' 'adopt -V' 'history --version' 'history -V' 'show --version' 'show -V' 'forget --version' 'forget -V'; do
         recu 0 $words
         [ -n "$(out)" ] || fail "recu $words prints no version"
         silent
@@ -69,6 +69,14 @@ example() {
         undo | redo | revert | history | show | forget) does recset -n 0 -f Name -s Ada "${journal[@]}" contacts.rec ;;
     esac
     [ "$1" != redo ] || does undo "${journal[@]}" contacts.rec
+    if [ "$1" = adopt ]; then
+        # the text before the change is that of the last edit but one, and an older one is brought back
+        cp contacts.rec first.rec
+        does recset -n 0 -f Name -s Ada contacts.rec
+        cp contacts.rec contacts.rec~
+        does recset -n 0 -f Name -s Eve contacts.rec
+        mv first.rec contacts.rec
+    fi
     cp contacts.rec contacts.rec.before
     eval "recu 0 ${2#  recu }"
     silent
@@ -81,12 +89,18 @@ example() {
             prints '' ''
             cmp contacts.rec contacts.rec.before
             ;;
+        adopt)
+            prints '' ''
+            cmp contacts.rec contacts.rec.before
+            recu 0 history contacts.rec
+            prints 'done 1 recset¶done 2 recset¶done 3 adopt¶' ''
+            ;;
     esac
 }
 
 @test "the examples of help" {
     local tool line number
-    for tool in recsel recinf recfix recins recdel recset batch undo redo revert history show forget; do
+    for tool in recsel recinf recfix recins recdel recset batch undo redo revert adopt history show forget; do
         recu 0 help "$tool"
         out > help
         tail -n 1 help | grep -q '^  recu ' || fail "the help of $tool ends with no example"
@@ -122,7 +136,7 @@ listed() {
 
 @test "what help says of each tool and option" {
     local tool
-    for tool in '' recsel recinf recfix recins recdel recset batch undo redo revert history show forget; do
+    for tool in '' recsel recinf recfix recins recdel recset batch undo redo revert adopt history show forget; do
         recu 0 $tool --help
         out | listed "${tool:-recu}"
     done > listed
@@ -131,7 +145,7 @@ listed() {
 
 @test "help fits 80 columns" {
     local tool words
-    for tool in '' recsel recinf recfix recins recdel recset batch undo redo revert history show forget; do
+    for tool in '' recsel recinf recfix recins recdel recset batch undo redo revert adopt history show forget; do
         for words in "$tool --help" "$tool -h" "help $tool"; do
             recu 0 $words
             ! out | LC_ALL=C.UTF-8 grep -E '.{81}' || fail "a line of recu $words has more than 80 characters"

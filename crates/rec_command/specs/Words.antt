@@ -23,12 +23,13 @@ use Rattle.rec_tools.specs.declared.request.EditRequest.TheVariants.{Insert, Rep
 use Rattle.rec_tools.specs.declared.request.Look.{Look}
 use Rattle.rec_tools.specs.declared.request.Look.TheVariants.{Show, Info, Check, History, Diff, Log}
 use Rattle.rec_tools.specs.declared.request.Change.TheVariants.{Edit, Batch, Undo, Redo, Revert, Forget}
+use Rattle.rec_tools.specs.declared.request.Change.TheVariants.{Adopt}
 use Rattle.rec_tools.specs.Asking.{selection_for}
 use Rattle.rec_disk.specs.Paths.{AreApart}
 use Rattle.rec_command.specs.declared.args.Order.{Order}
 use Rattle.rec_command.specs.declared.args.Order.TheVariants.{Look as Looks, Change as Changes, Preview as Previews}
 use Rattle.rec_command.specs.declared.args.ChangeOrder.{ChangeOrder}
-use Rattle.rec_command.specs.declared.args.ChangeOrder.TheVariants.{Whole, BatchAt, Through}
+use Rattle.rec_command.specs.declared.args.ChangeOrder.TheVariants.{Whole, BatchAt, AdoptAt, Through}
 use Rattle.rec_command.specs.declared.args.CommandLine.{CommandLine}
 use Rattle.rec_command.specs.declared.args.JournalPath.{JournalPath}
 use Rattle.rec_command.specs.declared.args.JournalPath.TheVariants.{Unused, Default, Given}
@@ -36,7 +37,7 @@ use Rattle.rec_command.specs.declared.tools.Tool.{Tool}
 use Rattle.rec_command.specs.declared.tools.Tool.TheVariants.{RecSel, RecInf, RecFix, RecIns, RecDel, RecSet}
 use Rattle.rec_command.specs.declared.tools.Tool.TheVariants.{Batch as ByBatch, Undo as ByUndo, Redo as ByRedo}
 use Rattle.rec_command.specs.declared.tools.Tool.TheVariants.{Revert as ByRevert, History as ByHistory}
-use Rattle.rec_command.specs.declared.tools.Tool.TheVariants.{Show as ByShow, Forget as ByForget}
+use Rattle.rec_command.specs.declared.tools.Tool.TheVariants.{Show as ByShow, Forget as ByForget, Adopt as ByAdopt}
 use Rattle.rec_command.specs.Usage.{name_of, usage}
 
 -- ---- the options
@@ -128,17 +129,17 @@ IsEditGiven (Some digits) number = (n : ℕ) × (number ≡ Some n) × IsNumber 
 
 -- ---- the words in their places
 
--- N and FILE, by the first and the second word: of two words the first is N. No tool but `show` takes two
-abbrev pub number_and_file : Option Text → Option Text → Option Text × Option Text
-number_and_file first None = (None, first)
-number_and_file first (Some second) = (first, Some second)
+-- FILE is the last of two words, or the only one. No tools but `show` and `adopt` take two so
+abbrev pub last_word : Option Text → Option Text → Option Text × Option Text
+last_word first None = (None, first)
+last_word first (Some second) = (first, Some second)
 
 abbrev pub words_given : List Row → Option Text × Option Text
-words_given options = number_and_file (first_of (codes "file") options) (first_of (codes "second") options)
+words_given options = last_word (first_of (codes "file") options) (first_of (codes "second") options)
 
--- N of `show`
-abbrev pub number_given : List Row → Option Text
-number_given options = (words_given options).0
+-- N of `show`, and OLD of `adopt`
+abbrev pub before_file_given : List Row → Option Text
+before_file_given options = (words_given options).0
 
 abbrev pub file_given : List Row → Option Text
 file_given options = (words_given options).1
@@ -196,13 +197,14 @@ AsksLook tool options History = (tool ≡ ByHistory) × (has_flag (codes "patch"
 AsksLook tool options (Log style) =
     (tool ≡ ByHistory) × (has_flag (codes "patch") options ≡ true) × IsStyle options style
 AsksLook tool options (Diff number style) =
-    (tool ≡ ByShow) × IsEditGiven (number_given options) number × IsStyle options style
+    (tool ≡ ByShow) × IsEditGiven (before_file_given options) number × IsStyle options style
 
--- the change that they ask for; a batch has its text in the file that `-b` names
+-- the change that they ask for; a batch and an adoption have their texts in files
 abbrev pub AsksChange : Tool → List Row → ChangeOrder → Type 0
 AsksChange tool options (Whole (Edit edit force)) =
     AsksEdit tool options edit × (force ≡ has_flag (codes "force") options)
 AsksChange tool options (Whole (Batch text force)) = ⊥
+AsksChange tool options (Whole (Adopt old)) = ⊥
 AsksChange tool options (Whole (Undo number)) =
     (tool ≡ ByUndo) × IsEditGiven (first_of (codes "through") options) None × (number ≡ None)
 AsksChange tool options (Whole (Redo number)) =
@@ -216,6 +218,8 @@ AsksChange tool options (Whole (Forget newest dropped)) =
 AsksChange tool options (BatchAt path force) =
     (tool ≡ ByBatch) × (first_of (codes "batch") options ≡ Some (string_bytes path))
     × (force ≡ has_flag (codes "force") options)
+AsksChange tool options (AdoptAt old) =
+    (tool ≡ ByAdopt) × (option_map string_bytes old ≡ before_file_given options)
 AsksChange tool options (Through Backward number) =
     (tool ≡ ByUndo) × IsEditGiven (first_of (codes "through") options) (Some number)
 AsksChange tool options (Through Forward number) =

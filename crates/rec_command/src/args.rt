@@ -7,6 +7,7 @@ ghost use Rattle.rec_command.specs.declared.args.CommandLine.{CommandLine as Lin
 ghost use Rattle.rec_command.specs.Refusals.{IsOrRefuses, IsParsed};
 ghost use Rattle.rec_command.specs.Words.{IsAsked, IsAskedBy, Orders};
 
+mod adopting;
 mod editing;
 mod forgetting;
 mod found;
@@ -23,6 +24,7 @@ mod style;
 mod usage;
 
 use crate::tools::Tool;
+use adopting::adopt_order;
 use clap::ArgMatches;
 use editing::{batch_order, deletion, edit_order, insertion, recfix_order, setting};
 use forgetting::forget_order;
@@ -76,6 +78,8 @@ pub enum ChangeOrder {
     Whole(Change),
     /// A batch, whose text is that of the file of this path.
     BatchAt { path: String, force: bool },
+    /// An adoption, whose text before is that of the file of this path, where one is given.
+    AdoptAt(Option<String>),
     /// Moves that way, by the nearest edit and those after it, as far as the edit of this number.
     Through(Direction, usize),
 }
@@ -157,6 +161,7 @@ fn order_of(alloc: Global, tool: Tool, options: &ArgMatches) -> Result<Order, Re
         Tool::Undo => undo_order(options),
         Tool::Redo => redo_order(options),
         Tool::Revert => revert_order(options),
+        Tool::Adopt => adopt_order(alloc, options),
         Tool::History => history_order(alloc, options),
         Tool::Show => show_order(alloc, options),
         Tool::Forget => forget_order(options),

@@ -371,6 +371,19 @@ pub const REVERT: [Argument; 6] = [
     FILE,
 ];
 
+pub const ADOPT: [Argument; 5] = [
+    DRY_RUN,
+    UNIFIED,
+    JOURNAL,
+    FILE,
+    Argument {
+        written: Written::Word,
+        name: "second",
+        takes: Takes::Value("OLD"),
+        help: "The text before the change, or any of the history",
+    },
+];
+
 pub const HISTORY: [Argument; 4] = [
     Argument {
         written: Written::Name,
@@ -383,7 +396,8 @@ pub const HISTORY: [Argument; 4] = [
     FILE,
 ];
 
-/// A word that has to be there comes first here, and so help lists it; where there are two, the first is N all the same.
+/// A word that has to be there comes first here, as for adopt, and so help lists it; where there are two, the first is N all the
+/// same.
 pub const SHOW: [Argument; 4] = [
     UNIFIED,
     JOURNAL,

@@ -6,10 +6,10 @@ ghost use Rattle.rec_command.specs.Usage.{name_of, usage_of};
 ghost use Rattle.rec_command.specs.proving.Tools.{usage_in};
 
 use crate::args::help::{
-    BATCH_ABOUT, BATCH_HELP, BATCH_USAGE, FORGET_ABOUT, FORGET_HELP, HISTORY_HELP, RECDEL_ABOUT,
-    RECDEL_HELP, RECFIX_ABOUT, RECFIX_HELP, RECINF_HELP, RECINS_ABOUT, RECINS_HELP, RECINS_USAGE,
-    RECSEL_HELP, RECSET_ABOUT, RECSET_HELP, RECSET_USAGE, REDO_HELP, REVERT_ABOUT, REVERT_HELP,
-    SHOW_ABOUT, SHOW_HELP, SHOW_USAGE, UNDO_HELP,
+    ADOPT_ABOUT, ADOPT_HELP, ADOPT_USAGE, BATCH_ABOUT, BATCH_HELP, BATCH_USAGE, FORGET_ABOUT,
+    FORGET_HELP, HISTORY_HELP, RECDEL_ABOUT, RECDEL_HELP, RECFIX_ABOUT, RECFIX_HELP, RECINF_HELP,
+    RECINS_ABOUT, RECINS_HELP, RECINS_USAGE, RECSEL_HELP, RECSET_ABOUT, RECSET_HELP, RECSET_USAGE,
+    REDO_HELP, REVERT_ABOUT, REVERT_HELP, SHOW_ABOUT, SHOW_HELP, SHOW_USAGE, UNDO_HELP,
 };
 use crate::options;
 use crate::options::Argument;
@@ -27,13 +27,14 @@ pub enum Tool {
     Undo,
     Redo,
     Revert,
+    Adopt,
     History,
     Show,
     Forget,
 }
 
 /// All tools, in the order of help.
-pub static TOOLS: [Tool; 13] = [
+pub static TOOLS: [Tool; 14] = [
     Tool::RecSel,
     Tool::RecInf,
     Tool::RecFix,
@@ -44,6 +45,7 @@ pub static TOOLS: [Tool; 13] = [
     Tool::Undo,
     Tool::Redo,
     Tool::Revert,
+    Tool::Adopt,
     Tool::History,
     Tool::Show,
     Tool::Forget,
@@ -154,6 +156,15 @@ static REVERT: Usage = Usage {
     after_help: REVERT_HELP,
 };
 
+static ADOPT: Usage = Usage {
+    name: "adopt",
+    arguments: &options::ADOPT,
+    about: "Makes a change by another program an edit",
+    long_about: Some(ADOPT_ABOUT),
+    usage: Some(ADOPT_USAGE),
+    after_help: ADOPT_HELP,
+};
+
 static HISTORY: Usage = Usage {
     name: "history",
     arguments: &options::HISTORY,
@@ -198,6 +209,7 @@ impl Tool {
             Tool::Undo => &UNDO,
             Tool::Redo => &REDO,
             Tool::Revert => &REVERT,
+            Tool::Adopt => &ADOPT,
             Tool::History => &HISTORY,
             Tool::Show => &SHOW,
             Tool::Forget => &FORGET,

@@ -102,7 +102,7 @@ fn play_requests(scene: &mut Scene<'_>) -> io::Result<Counts> {
     scene.put_first()?;
     for number in 0..REQUESTS {
         counts = counts.plus(play_request(scene, number)?);
-        scene.go_on();
+        scene.go_on()?;
     }
     Ok(counts)
 }
@@ -135,7 +135,7 @@ fn log_of(scene: &mut Scene<'_>, number: usize) -> io::Result<()> {
     scene.put_first()?;
     for before in 0..number {
         scene.learn(before)?;
-        scene.go_on();
+        scene.go_on()?;
     }
     let story = scene.learn(number)?;
     print_changes(scene.rt, &story)

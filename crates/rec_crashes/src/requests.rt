@@ -11,8 +11,14 @@ const FIRST: &str = "A: 5\n\nA: 2\n";
 /// The request that forgets the first edit.
 const FORGETTING: usize = 4;
 
+/// The request that makes what another program saved before it an edit.
+const ADOPTION: usize = 5;
+
+/// What another program saved.
+const SAVED: &str = "A: 6\n";
+
 /// How many requests there are.
-pub const REQUESTS: usize = 6;
+pub const REQUESTS: usize = 7;
 
 /// An edit that can follow each request.
 pub const NEXT: usize = REQUESTS - 1;
@@ -34,12 +40,26 @@ fn change(alloc: Global, number: usize) -> Result<Change, AllocError> {
                 dropped: false,
             });
         }
+        // a text of the history, before its last edit
+        ADOPTION => {
+            let old = Bytes::copy_of(alloc, FIRST.as_bytes())?;
+            return Ok(Change::Adopt(Some(old)));
+        }
         _ => "Tool: recins\nField: B\nValue: 3\n",
     };
     Ok(Change::Batch {
         text: Bytes::copy_of(alloc, text.as_bytes())?,
         force: false,
     })
+}
+
+/// What another program saves before the request of a number, which then stands there and not the last text.
+pub fn saved_before(number: usize) -> Option<&'static str> {
+    if number == ADOPTION {
+        Some(SAVED)
+    } else {
+        None
+    }
 }
 
 /// The text to which undo of all leads once this number of requests was made.

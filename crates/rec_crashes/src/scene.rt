@@ -1,6 +1,6 @@
 //! A file and its journal on a disk in memory, and requests on them.
 use crate::paths::Paths;
-use crate::requests::{NEXT, TEXT, first_text, request};
+use crate::requests::{NEXT, TEXT, first_text, request, saved_before};
 use crate::story::Story;
 use rec_disk::{Disk, MemoryDisk, MemoryFile};
 use rec_files::{Access, DiskHome, run};
@@ -135,9 +135,22 @@ impl<'r> Scene<'r> {
         }
     }
 
-    /// Goes on to the next request: what stood after the last one stands before it.
-    pub fn go_on(&mut self) {
+    /// Goes on to the next request: what stood after the last one stands before it, or what another program saved then.
+    pub fn go_on(&mut self) -> io::Result<()> {
         self.before = mem::replace(&mut self.after, State::new(self.rt.alloc()));
+        match saved_before(self.number.saturating_add(1)) {
+            Some(text) => self.save_outside(text),
+            None => Ok(()),
+        }
+    }
+
+    /// Lets another program save a text, to which undo of all leads then.
+    fn save_outside(&mut self, text: &'static str) -> io::Result<()> {
+        let saved = Vec::from_slice(self.rt.alloc(), text.as_bytes())?;
+        self.before.file = Some(saved);
+        self.begin()?;
+        self.before = self.see(text)?;
+        Ok(())
     }
 
     /// Runs a request, and says whether it was made.

@@ -1,4 +1,5 @@
 pub mod composing
+pub mod comparing
 pub mod ChangeLemmas
 pub mod LineLemmas
 pub mod ShareLemmas

@@ -15,5 +15,7 @@ pub mod Placed
 pub mod Making
 pub mod Keeping
 pub mod Reverts
+-- two texts compared
+pub mod Comparing
 -- what serves proofs
 pub mod proving

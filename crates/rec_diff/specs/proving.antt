@@ -1,6 +1,9 @@
 -- What serves proofs.
 pub mod Runs
 pub mod Turns
+pub mod Ranks
+pub mod SortedLines
+pub mod Cutting
 pub mod Passages
 pub mod Headings
 pub mod Backs

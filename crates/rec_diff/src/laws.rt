@@ -1,6 +1,7 @@
 //! Laws of the definitions.
 ghost use Rattle.rec_diff.specs.Changes.{HunksSplice};
 ghost use Rattle.rec_diff.specs.Composing.{OneComposition, ComposesSplices, ComposesItself};
+ghost use Rattle.rec_diff.specs.Comparing.{HunksLeadBetween, LongestIsLongest};
 ghost use Rattle.rec_diff.specs.WholeLines.{OneChange, ChangesLeadByLines};
 ghost use Rattle.rec_diff.specs.Patched.{DiffsLead, OneTextAfter};
 
@@ -42,4 +43,14 @@ pub fn diffs_lead()
 /// Changes of one text that print alike lead to one text.
 pub fn one_text_after()
     ensures { OneTextAfter }
+{}
+
+/// The hunks between two texts are a patch that leads from the one to the other, by whole lines.
+pub fn hunks_lead_between()
+    ensures { HunksLeadBetween }
+{}
+
+/// The landmarks that are chosen are the longest list that has one order in both texts, and the earliest.
+pub fn longest_is_longest()
+    ensures { LongestIsLongest }
 {}

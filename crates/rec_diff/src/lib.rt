@@ -2,6 +2,7 @@
 //! `specs/` defines them, from `Changes` on.
 #![tactic(auto)]
 
+mod comparing;
 mod composing;
 mod diffs;
 mod head;
@@ -18,11 +19,12 @@ mod reverting;
 mod style;
 mod turn;
 
+pub use comparing::{hunks_between, step_by_lines};
 pub use composing::{compose, compose_all};
 pub use diffs::{one_diff, write_diff};
 pub use laws::{
-    changes_lead_by_lines, composes_itself, composes_splices, diffs_lead, hunks_splice, one_change,
-    one_composition, one_text_after,
+    changes_lead_by_lines, composes_itself, composes_splices, diffs_lead, hunks_lead_between,
+    hunks_splice, longest_is_longest, one_change, one_composition, one_text_after,
 };
 pub use printing::write_change;
 pub use rec_journal::{Hunk, Patch};

@@ -14,7 +14,7 @@ use std::alloc::{AllocError, Global};
 /// The turns so far, and where both texts are read to. One that may still grow lies between `start` and `line`; from
 /// `line` up to `here` a line is open.
 #[derive(Drop)]
-struct Lining {
+pub(crate) struct Lining {
     turns: Vec<Turn>,
     start: Place,
     line: Place,
@@ -23,10 +23,11 @@ struct Lining {
 
 impl Lining {
     ghost use Rattle.std.specs.Prelude.{◌≡◌, ◌<◌, ◌≤◌, ◌+◌, ◌-◌, ◌^◌, [], true, length, take, drop, IfOk, OnOk};
+    ghost use Rattle.std.specs.List.{between};
     ghost use Rattle.rec_diff.specs.proving.Turns.{AreAll, Closes, IsLining, IsNext, IsTrimmed, PutsTurn, Reads, ReadsHunk};
     ghost use Rattle.rec_diff.specs.proving.Turns.{Turns, is_at_line as both_at_line, is_open_alike as open_alike, moved};
 
-    fn new(alloc: Global) -> Lining
+    pub(crate) fn new(alloc: Global) -> Lining
         ensures turns { result.turns.items ≡ [] }
         ensures start { (result.start.old ≡ 0) × (result.start.new ≡ 0) }
         ensures line { (result.line.old ≡ 0) × (result.line.new ≡ 0) }
@@ -153,7 +154,7 @@ impl Lining {
     }
 
     /// Reads bytes that stay.
-    fn stay(&mut self, texts: Texts, count: usize) -> Result<(), AllocError>
+    pub(crate) fn stay(&mut self, texts: Texts, count: usize) -> Result<(), AllocError>
         requires lining { IsLining texts.before.now texts.after.now self.old }
         requires old { self.old.here.old + count ≤ length texts.before.now }
         requires new { self.old.here.new + count ≤ length texts.after.now }
@@ -191,6 +192,22 @@ impl Lining {
         Ok(())
     }
 
+    /// Reads bytes that turn, up to a place of both texts.
+    pub(crate) fn turn_to(&mut self, texts: Texts, place: Place) -> Result<(), AllocError>
+        requires lining { IsLining texts.before.now texts.after.now self.old }
+        requires from_old { self.old.here.old ≤ place.old }
+        requires from_new { self.old.here.new ≤ place.new }
+        requires old { place.old ≤ length texts.before.now }
+        requires new { place.new ≤ length texts.after.now }
+        ensures { OnOk result (Turns texts.entry.before.now texts.entry.after.now self.old self.new
+            (between self.old.here.old place.old texts.entry.before.now)
+            (between self.old.here.new place.new texts.entry.after.now)) }
+    {
+        let old = place.old - self.here.old;
+        let new = place.new - self.here.new;
+        self.turn(texts, old, new)
+    }
+
     /// How many bytes of the text before are left.
     fn rest_of(&self, texts: Texts) -> usize
         requires { IsLining texts.before.now texts.after.now self.now }
@@ -200,7 +217,7 @@ impl Lining {
     }
 
     /// All turns, at the end of both texts.
-    fn finish(self, texts: Texts) -> Result<Vec<Turn>, AllocError>
+    pub(crate) fn finish(self, texts: Texts) -> Result<Vec<Turn>, AllocError>
         requires { IsLining texts.before.now texts.after.now self }
         ensures { IfOk result (λ turns. AreAll texts.entry.before.now texts.entry.after.now self turns.items) }
     {

@@ -4,7 +4,9 @@
 #[derive(Clone, Copy)]
 pub struct About<'a> {
     /// The path of a batch.
-    pub batch: Option<&'a str>,
+    pub text: Option<&'a str>,
+    /// The path of a text before.
+    pub old: Option<&'a str>,
     /// What the file is called, and its path, which is another one where it is called by a link.
     pub file: &'a str,
     pub path: &'a str,

@@ -19,7 +19,7 @@ pub fn explain_batch(
     refusal: &Refusal,
     said: &mut Explanation,
 ) {
-    let path = about.batch.unwrap_or("?");
+    let path = about.text.unwrap_or("?");
     match (refusal.fault(), refusal.edit()) {
         (Fault::BadBatch { line }, _) => {
             explain_bad_batch(path, batch, *line, refusal.reason(), said);

@@ -16,7 +16,7 @@ pub fn explain_counter(
 ) {
     if let Some(name) = plain(name) {
         explain_field(called(about.file), name, why, said);
-        explain_ways(name, edit, about.batch.is_some(), said);
+        explain_ways(name, edit, about.text.is_some(), said);
     }
 }
 

@@ -63,7 +63,9 @@ fn begins_anew(events: &[u8]) -> bool {
 
 /// Says how many edits that were undone can't be redone any more once this one is made, if there are such.
 pub fn say_what_was_undone(reply: Reply, events: &[u8], is_tried: bool, said: &mut Explanation) {
-    let (Reply::Edited { number, .. } | Reply::Reverted { number, .. }) = reply else {
+    let (Reply::Edited { number, .. } | Reply::Reverted { number, .. } | Reply::Adopted(number)) =
+        reply
+    else {
         return;
     };
     let count = dropped_by(number, events);

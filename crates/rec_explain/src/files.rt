@@ -4,8 +4,9 @@ ghost use Rattle.rec_explain.specs.Lines.{AreLines, IsShown};
 
 use crate::about::About;
 use crate::explanation::Explanation;
+use crate::lines::shown::plain;
 use crate::refusal::change_in;
-use rec_text::Outside;
+use rec_text::{Outside, Reason};
 use rec_tools::{Change, EditRequest, Fault, Look, Request};
 use std::alloc::Global;
 
@@ -109,6 +110,46 @@ fn explain_journal(about: &About<'_>, line: usize, said: &mut Explanation) {
     ]);
 }
 
+/// Says how the history of a file that was changed outside goes on.
+pub fn explain_adoption(file: &str, said: &mut Explanation) {
+    said.add(&[
+        file,
+        ": recu adopt OLD ",
+        file,
+        " makes the change an edit, OLD being the text before it or any of the history",
+    ]);
+    said.add(&[file, ": else the next edit begins a new history"]);
+}
+
+/// Says which text the one before a change isn't, by the digest of that with which the history ends.
+pub fn explain_other_text<'t>(
+    file: &'t str,
+    old: Option<&'t str>,
+    reason: Option<&'t Reason>,
+    said: &mut Explanation,
+) {
+    let Some(Reason::End(digest)) = reason else {
+        return;
+    };
+    let end = plain(digest.as_slice()).unwrap_or("");
+    match old {
+        Some(old) => said.add(&[
+            old,
+            ": no text of the history of ",
+            file,
+            ", which ends with that of SHA-256 ",
+            end,
+        ]),
+        None => said.add(&[
+            file,
+            ": give the text before the change, as recu adopt OLD ",
+            file,
+            "; its SHA-256 is ",
+            end,
+        ]),
+    }
+}
+
 /// Says what can be done where the edits no longer lead to the file or from it.
 pub fn explain_drift(
     about: &About<'_>,
@@ -117,10 +158,7 @@ pub fn explain_drift(
     said: &mut Explanation,
 ) {
     match outside {
-        Outside::File => said.add(&[
-            about.file,
-            ": if the text of the last edit is brought back to the byte, it can be undone; the next edit begins a new history",
-        ]),
+        Outside::File => explain_adoption(about.file, said),
         Outside::Journal => said.add(&[
             about.journal,
             ": a text in it was changed; move it away to go on without the history",

@@ -148,6 +148,7 @@ pub fn done(alloc: Global, reply: &Reply) -> Result<String, AllocError> {
             name_of(*tool)
         ),
         Reply::Forgotten { older, dropped } => forgotten(alloc, *older, *dropped),
+        Reply::Adopted(number) => format!(in alloc; "adopted (edit {number})"),
         Reply::Shown | Reply::Violated(_) | Reply::Unchanged { .. } => Ok(String::new(alloc)),
     }
 }
@@ -181,6 +182,7 @@ fn would(alloc: Global, reply: &Reply) -> Result<String, AllocError> {
         Reply::Reverted { edit, tool, .. } => {
             format!(in alloc; "it would revert edit {edit}, {}", name_of(*tool))
         }
+        Reply::Adopted(_) => String::from_str(alloc, "it would be adopted"),
         Reply::Shown | Reply::Violated(_) | Reply::Unchanged { .. } | Reply::Forgotten { .. } => {
             Ok(String::new(alloc))
         }

@@ -9,7 +9,7 @@ use crate::descriptors::fields::explain_field;
 use crate::descriptors::rules::rule_of;
 use crate::edit_numbers::explain_numbers;
 use crate::explanation::Explanation;
-use crate::files::{explain_drift, explain_history, explain_unread};
+use crate::files::{explain_drift, explain_history, explain_other_text, explain_unread};
 use crate::lines::bad_lines::{explain_bad_line, explain_open_line};
 use crate::lines::line_endings::called;
 use crate::obstacles::explain_obstacle;
@@ -69,6 +69,9 @@ fn explain_fault(
             explain_violations(alloc, about, change, violations, reason, said);
         }
         (Fault::StoreFailed, _) => explain_unread(about, request, said),
+        (Fault::OtherText, Some(Change::Adopt(_))) => {
+            explain_other_text(about.file, about.old, refusal.reason(), said);
+        }
         (Fault::NothingToRedo, _) => explain_redo(about, refusal.reason(), said),
         (_, Some(Change::Edit { edit, .. })) => explain_edit(alloc, about, edit, refusal, said),
         (_, Some(Change::Batch { text, .. })) => {
@@ -127,7 +130,7 @@ pub(crate) fn explain_reason(
 
 /// What a new record needs: in a batch fields, else options.
 fn needed(about: &About<'_>) -> &'static str {
-    match about.batch {
+    match about.text {
         Some(_) => "Field and Value, or Record, are needed",
         None => "-f and -v, or -r, are needed",
     }

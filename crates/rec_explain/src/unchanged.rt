@@ -15,6 +15,9 @@ pub fn explain_unchanged(
     is_tried: bool,
     said: &mut Explanation,
 ) {
+    if matches!(change, Change::Adopt(_)) {
+        return said.add(&["nothing to adopt"]);
+    }
     let nothing = match chosen {
         Some(0) => ": no record is selected",
         _ if is_tried => ": nothing would change",

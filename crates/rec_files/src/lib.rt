@@ -1,10 +1,9 @@
-//! The home of files: a file and its journal on a disk, and the text of a batch; and standard output.
+//! The home of files: a file and its journal on a disk, and the texts that changes are given; and standard output.
 //! `docs/journal.md` says how they are replaced, and `specs/` defines their paths, and what a stop of the program or a crash of the machine leaves of them.
 #![tactic(auto)]
 
 mod access;
 mod ahead;
-mod batch;
 mod both;
 mod defaults;
 mod failure;
@@ -20,11 +19,12 @@ mod replacing;
 mod running;
 mod steps;
 mod target;
+mod texts;
 mod working_file;
 
 pub use access::{Access, access_of};
-pub use batch::batch_text;
 pub use defaults::{DefaultPaths, default_paths};
 pub use files::DiskHome;
 pub use output::{StandardOutput, explain_output, room_for};
 pub use running::{preview_through, run, run_through};
+pub use texts::whole_text;

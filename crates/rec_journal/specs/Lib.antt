@@ -1,4 +1,5 @@
--- what patches, events, histories and plans are, which texts edits have, what a stop leaves, and what forgetting does
+-- what patches, events, histories and plans are, which texts edits have, with which text a history ends, what a stop
+-- leaves, and what forgetting does
 pub mod Direction
 pub mod Patch
 pub mod Revisions
@@ -8,6 +9,7 @@ pub mod Listing
 pub mod Plans
 pub mod Numbers
 pub mod EditTexts
+pub mod Ending
 pub mod Stops
 pub mod Bound
 pub mod Promises

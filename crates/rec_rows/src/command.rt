@@ -144,6 +144,8 @@ impl<'w> Cells<'w> {
         match change {
             Change::Edit { edit, .. } => self.read_edit(edit),
             Change::Batch { text, .. } => self.read(text),
+            Change::Adopt(None) => Ok(()),
+            Change::Adopt(Some(old)) => self.read(old),
             Change::Undo(_) | Change::Redo(_) | Change::Revert { .. } | Change::Forget { .. } => {
                 Ok(())
             }
@@ -161,7 +163,7 @@ fn request_in(alloc: Global, words: &[&str]) -> Result<Request, Fault> {
     })
 }
 
-/// The change of an order. A batch has the word that names its path as its text. Of moves as far as an edit it is the first.
+/// The change of an order, which has the words that name the paths of its texts as these. Of moves as far as an edit it is the first.
 fn change_of(alloc: Global, order: ChangeOrder) -> Result<Change, AllocError> {
     match order {
         ChangeOrder::Whole(change) => Ok(change),
@@ -169,7 +171,15 @@ fn change_of(alloc: Global, order: ChangeOrder) -> Result<Change, AllocError> {
             let text = Bytes::copy_of(alloc, path.as_bytes())?;
             Ok(Change::Batch { text, force })
         }
+        ChangeOrder::AdoptAt(old) => Ok(Change::Adopt(word_given(alloc, &old)?)),
         ChangeOrder::Through(direction, number) => Ok(move_through(direction, number)),
+    }
+}
+
+fn word_given(alloc: Global, word: &Option<String>) -> Result<Option<Bytes>, AllocError> {
+    match word {
+        Some(word) => Ok(Some(Bytes::copy_of(alloc, word.as_bytes())?)),
+        None => Ok(None),
     }
 }
 

@@ -50,6 +50,7 @@ fn say(said: &mut String, answer: &Result<Reply, Refusal>) -> Result<(), AllocEr
             said,
             "forgotten {older}, dropped {dropped}"
         ),
+        Ok(Reply::Adopted(number)) => write!(said, "adopted {number}"),
         Err(refusal) => {
             let fault = refusal.fault();
             write!(said, "{} {fault}", fault.number())

@@ -51,9 +51,16 @@ fn prefix(bytes: &[u8], len: usize) -> &[u8] {
 }
 
 fn is_change(answer: &str) -> bool {
-    ["edited ", "undone ", "redone ", "reverted ", "forgotten "]
-        .iter()
-        .any(|prefix| answer.starts_with(prefix) && answer != "forgotten 0")
+    [
+        "edited ",
+        "undone ",
+        "redone ",
+        "reverted ",
+        "forgotten ",
+        "adopted ",
+    ]
+    .iter()
+    .any(|prefix| answer.starts_with(prefix) && answer != "forgotten 0")
 }
 
 impl Wanted {

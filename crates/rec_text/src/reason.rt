@@ -46,7 +46,7 @@ pub enum Reason {
     Obstacle(Obstacle),
     /// What was changed outside.
     Outside(Outside),
-    /// The digest of the text with which the history ends.
+    /// The digest of the text with which the history ends, in hexadecimal digits.
     End(Bytes),
 }
 

@@ -13,7 +13,7 @@ use Rattle.rec_text.specs.Reading.{HasBadLine, HasOpenLine, line_after}
 use Rattle.rec_text.specs.Records.{AreRecords, elements_in, is_field_piece}
 use Rattle.rec_sex.specs.Meaning.{values_of}
 use Rattle.rec_journal.specs.declared.event.Tool.{Tool}
-use Rattle.rec_journal.specs.declared.event.Tool.TheVariants.{RecIns, RecDel, RecSet, RecFix, Batch}
+use Rattle.rec_journal.specs.declared.event.Tool.TheVariants.{RecIns, RecDel, RecSet, RecFix, Batch, Adopt, Write}
 use Rattle.rec_journal.specs.Event.{tool_name}
 use Rattle.rec_edit.specs.declared.request.Action.{Action}
 use Rattle.rec_edit.specs.declared.request.NewRecord.{NewRecord}
@@ -40,6 +40,12 @@ names_for RecSet = codes "Tool" ∷ (selecting_names ++ codes "Fields" ∷ codes
     ∷ codes "Rename" ∷ codes "Delete" ∷ codes "Comment" ∷ [])
 names_for RecFix = codes "Tool" ∷ []
 names_for Batch = []
+names_for Adopt = []
+names_for Write = []
+
+-- the tool edits records, so that an edit of a batch may be by it
+abbrev pub EditsRecords : Tool → Type 0
+EditsRecords tool = (tool ≢ Batch) × (tool ≢ Adopt) × (tool ≢ Write)
 
 -- the element has one of these names, if it is a field
 abbrev pub is_known : List (List ℕ) → Piece → Bool

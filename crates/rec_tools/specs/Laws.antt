@@ -1,5 +1,9 @@
 -- Laws of the machine, of what contents stand for, and of files that were changed outside.
-use Rattle.std.specs.Prelude.{◌≡◌, ◌≢◌, ℕ, ◌+◌, Bool, true, List, [], ◌∷◌, codes, Option, None, Result, Ok, Err}
+use Rattle.std.specs.Prelude.{◌≡◌, ◌≢◌, ◌⊎◌, ℕ, ◌+◌, Bool, true, List, [], ◌∷◌, codes, Option, None, Result, Ok, Err}
+use Rattle.std.specs.Option.{unwrap_or}
+use Rattle.rec_journal.specs.declared.ending.End.{End}
+use Rattle.rec_journal.specs.declared.event.Tool.TheVariants.{Adopt as ByAdopt}
+use Rattle.rec_journal.specs.Plans.{ShareDigest}
 use Rattle.rec_text.specs.declared.fault.Fault.{Fault}
 use Rattle.rec_text.specs.declared.fault.Fault.TheVariants.{BadPattern, Drifted}
 use Rattle.rec_journal.specs.declared.event.EditStep.{EditStep}
@@ -14,11 +18,12 @@ use Rattle.rec_tools.specs.declared.request.Change.TheVariants.{Undo, Redo, Reve
 use Rattle.rec_tools.specs.declared.request.Look.TheVariants.{History}
 use Rattle.rec_tools.specs.declared.request.Request.{Request}
 use Rattle.rec_tools.specs.Home.{Contents, written}
-use Rattle.rec_tools.specs.Requests.{AskedChange, editing, Asked, showing, changing, previewing}
+use Rattle.rec_tools.specs.Requests.{AskedChange, editing, adopting, Asked, showing, changing, previewing}
 use Rattle.rec_tools.specs.Requests.{look_of, change_of, asked_of}
-use Rattle.rec_tools.specs.Outcomes.{Outcome, IsMade, IsChangeOutcome, IsRequestOutcome, printing}
+use Rattle.rec_tools.specs.Outcomes.{Outcome, IsMade, IsChangeOutcome, IsRequestOutcome, printing, IsEndFor, Adopts}
+use Rattle.rec_tools.specs.Outcomes.{edited_by_lines}
 use Rattle.rec_tools.specs.Attempts.{Answer}
-use Rattle.rec_tools.specs.Machine.{State, IsMachineStep, Stands, first_state}
+use Rattle.rec_tools.specs.Machine.{Entry, State, IsMachineStep, Stands, first_state, state_after_edit}
 
 -- The machine's step is a function of the state and the request; only where `regex` may refuse a pattern, that refusal
 -- may stand instead of the other answer.
@@ -102,8 +107,14 @@ pub record BeginsAnew (c : Contents) (o : Opened) (asked : Asked) (outcome : Out
   pub makes : MakesOf asked c.file tool made
   pub stands : Stands (written c outcome.writes) (outside_state c o tool made.steps made.text)
 
--- Nothing is taken back, made again, reverted or forgotten, and the history says so. What is written begins it anew;
--- where nothing is, only a preview is answered as an edit is.
+-- the history that counts goes on with the outside text, by what is asked for
+abbrev pub GoesOn : Contents → Opened → Asked → Outcome → Type 0
+GoesOn c o (changing (adopting old)) outcome =
+    (found : End) × IsEndFor old o c (Ok found) × Adopts o c found outcome
+GoesOn c o _ outcome = ⊥
+
+-- Nothing is taken back, made again, reverted or forgotten, and the history says so. What is written begins it anew, or
+-- is an adoption; where nothing is, only a preview is answered as an edit is.
 pub record IsNoticed (c : Contents) (o : Opened) : Type 0 where
   pub undo : (through : Option ℕ) (r : Result Outcome Fault) → IsChangeOutcome c (change_of (Undo through)) r
       → r ≡ Err Drifted
@@ -116,10 +127,54 @@ pub record IsNoticed (c : Contents) (o : Opened) : Type 0 where
   pub history : (r : Result Outcome Fault) → IsRequestOutcome c (look_of History) r
       → r ≡ Ok (printing (codes "drifted\n") Shown)
   pub edits : (request : Request) (outcome : Outcome) → IsRequestOutcome c (asked_of request) (Ok outcome)
-      → outcome.writes ≢ [] → BeginsAnew c o (asked_of request) outcome
+      → outcome.writes ≢ [] → BeginsAnew c o (asked_of request) outcome ⊎ GoesOn c o (asked_of request) outcome
   pub unwritten : (request : Request) (outcome : Outcome) → IsRequestOutcome c (asked_of request) (Ok outcome)
       → outcome.writes ≡ [] → MadeAnEdit outcome.reply → IsPreview (asked_of request)
 
 -- wherever the opening has drifted
 abbrev pub OutsideIsNoticed : Type 0
 OutsideIsNoticed = (c : Contents) (o : Opened) → Opens c.file c.journal o → o.drifted ≡ true → IsNoticed c o
+
+-- ---- adopted is an edit
+
+-- two texts share a digest
+abbrev pub Collide : Type 0
+Collide = (one other : List ℕ) × (one ≢ other) × ShareDigest one other
+
+-- the file was changed by another program, and as much of the journal counts as before
+pub record IsChangedOutside (c : Contents) (o : Opened) (changed : List ℕ) (p : Opened) : Type 0 where
+  pub opens : Opens c.file c.journal o
+  pub opens_changed : Opens changed c.journal p
+  pub drifted : p.drifted ≡ true
+  pub keep : p.keep ≡ o.keep
+
+-- Where contents stood for a state, and the file was then changed by another program, an adoption leaves contents that
+-- stand for the state after an edit to the new text, as if recu had made it; digests aside.
+abbrev pub AdoptedIsAnEdit : Type 0
+AdoptedIsAnEdit = (c : Contents) (s : State) (o p : Opened) (changed : List ℕ) (old : Option (List ℕ))
+    (outcome : Outcome) → Stands c s → IsChangedOutside c o changed p
+    → IsChangeOutcome (record { file = changed; journal = c.journal }) (adopting old) (Ok outcome)
+    → Collide ⊎ Stands (written (record { file = changed; journal = c.journal }) outcome.writes)
+    (state_after_edit s ByAdopt (edited_by_lines ByAdopt s.present changed).steps changed)
+
+-- one of these entries has this text
+abbrev pub HasText : List Entry → List ℕ → Type 0
+HasText [] text = ⊥
+HasText (entry ∷ entries) text = (entry.text ≡ text) ⊎ HasText entries text
+
+-- a text of a state: the present one, or that of an edit to take back or to make again
+abbrev pub IsTextIn : State → List ℕ → Type 0
+IsTextIn s text = (text ≡ s.present) ⊎ (HasText s.past text ⊎ HasText s.future text)
+
+-- and it isn't refused with any text of the state
+abbrev pub AnyTextWillDo : Type 0
+AnyTextWillDo = (c : Contents) (s : State) (o p : Opened) (changed : List ℕ) (old : Option (List ℕ)) (fault : Fault)
+    → Stands c s → IsChangedOutside c o changed p → IsTextIn s (unwrap_or old changed)
+    → IsChangeOutcome (record { file = changed; journal = c.journal }) (adopting old) (Err fault) → Collide
+
+-- the preview of an adoption prints what is shown of the newest edit once it is made
+abbrev pub AdoptionIsShownAfter : Type 0
+AdoptionIsShownAfter = (c : Contents) (old : Option (List ℕ)) (style : DiffStyle) (done previewed : Outcome)
+    → done.writes ≢ [] → IsChangeOutcome c (adopting old) (Ok done)
+    → IsRequestOutcome c (previewing style (adopting old)) (Ok previewed)
+    → IsRequestOutcome (written c done.writes) (showing None style) (Ok (printing previewed.text Shown))

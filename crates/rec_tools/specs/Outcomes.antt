@@ -1,13 +1,17 @@
 -- What a request comes to on any two contents: its refusals in their order, or what it prints, what it writes, and its
 -- reply.
 use Rattle.std.specs.Prelude.{◌≡◌, ◌≢◌, ◌⊎◌, ℕ, ◌+◌, ◌-◌, ◌<◌, Bool, true, false, List, [], ◌∷◌, length, Option, Some}
-use Rattle.std.specs.Prelude.{None, option_map, Result, Ok, Err, if◌then◌else◌}
+use Rattle.std.specs.Prelude.{None, option_map, take, Result, Ok, Err, if◌then◌else◌}
+use Rattle.std.specs.Option.{unwrap_or}
 use Rattle.rec_text.specs.declared.fault.Fault.{Fault}
 use Rattle.rec_text.specs.declared.fault.Fault.TheVariants.{BadPattern, DigestClash, Drifted, NoSuchEdit}
 use Rattle.rec_journal.specs.declared.patch.Direction.{Direction}
 use Rattle.rec_journal.specs.declared.patch.Direction.TheVariants.{Forward, Backward}
 use Rattle.rec_journal.specs.declared.event.Revision.{Revision}
 use Rattle.rec_journal.specs.declared.event.Tool.{Tool}
+use Rattle.rec_journal.specs.declared.event.Tool.TheVariants.{Adopt as ByAdopt}
+use Rattle.rec_journal.specs.declared.ending.End.{End}
+use Rattle.rec_journal.specs.Ending.{digest_of, HasEnd, IsEndOf}
 use Rattle.rec_journal.specs.declared.plan.Plan.{Plan}
 use Rattle.rec_journal.specs.History.{Opened, Opens, IsOpening, IsRegular, lost_edits}
 use Rattle.rec_journal.specs.Revisions.{LeadsBy, Leads}
@@ -16,34 +20,37 @@ use Rattle.rec_journal.specs.Numbers.{numbers_on, is_missing}
 use Rattle.rec_journal.specs.Stops.{IsSafe}
 use Rattle.rec_journal.specs.Forgetting.{forgotten_journal, after_forgetting}
 use Rattle.rec_tools.specs.declared.decision.Decision.{Decision}
-use Rattle.rec_tools.specs.declared.decision.Decision.TheVariants.{Stay, Put}
+use Rattle.rec_tools.specs.declared.decision.Decision.TheVariants.{Stay, Put, Adopt}
 use Rattle.rec_edit.specs.declared.answer.Edited.{Edited}
 use Rattle.rec_edit.specs.Batch.{IsBatchOutcome}
 use Rattle.rec_check.specs.DescribedTexts.{IsDescribedText}
 use Rattle.rec_tools.specs.declared.request.Request.{Request}
 use Rattle.rec_tools.specs.declared.request.Reply.{Reply}
 use Rattle.rec_tools.specs.declared.request.Reply.TheVariants.{Shown, Edited as EditedReply, Unchanged, Undone, Redone}
-use Rattle.rec_tools.specs.declared.request.Reply.TheVariants.{Reverted, Forgotten}
+use Rattle.rec_tools.specs.declared.request.Reply.TheVariants.{Reverted, Forgotten, Adopted}
 use Rattle.rec_tools.specs.Home.{Contents, Write, writes_by, written}
 use Rattle.rec_tools.specs.Reverting.{IsRevertOf}
 use Rattle.rec_tools.specs.Steps.{Then}
 use Rattle.rec_diff.specs.declared.style.DiffStyle.{DiffStyle}
+use Rattle.rec_diff.specs.Comparing.{step_between}
 use Rattle.rec_diff.specs.Diffs.{IsDiff}
 use Rattle.rec_tools.specs.Printouts.{Printout, IsShownText, printed_history, IsShownEdit, IsWholeLog}
-use Rattle.rec_tools.specs.Requests.{Edits, AskedChange, editing, moving, reverting, forgetting}
+use Rattle.rec_tools.specs.Requests.{Edits, AskedChange, editing, moving, reverting, forgetting, adopting}
 use Rattle.rec_tools.specs.Requests.{Asked, looking, listing, showing, listing_changes, changing, previewing, asked_of}
 
 -- ---- outcomes
 
--- what a request comes to that isn't refused: it prints this, it writes these in this order, and this is the reply
+-- what a request comes to that isn't refused: it prints this, it writes these in this order, and this is the reply; and
+-- the text from which an edit leads to the file, where the file was another program's
 pub record Outcome : Type 0 where
   pub text : List ℕ
   pub writes : List Write
   pub reply : Reply
+  pub from : Option (List ℕ)
 
 -- a text is printed, and nothing is written
 abbrev pub printing : List ℕ → Reply → Outcome
-printing text reply = record { text = text; writes = []; reply = reply }
+printing text reply = record { text = text; writes = []; reply = reply; from = None }
 
 -- nothing is printed or written
 abbrev pub staying : Reply → Outcome
@@ -51,7 +58,11 @@ staying reply = printing [] reply
 
 -- these are put in place
 abbrev pub replacing : List ℕ → Option (List ℕ) → Reply → Outcome
-replacing journal file reply = record { text = []; writes = writes_by journal file; reply = reply }
+replacing journal file reply = record { text = []; writes = writes_by journal file; reply = reply; from = None }
+
+-- a journal is put in place in which an edit leads from this text to the file
+abbrev pub leading : List ℕ → List ℕ → Reply → Outcome
+leading journal from reply = record { text = []; writes = writes_by journal None; reply = reply; from = Some from }
 
 -- a plan is put in place
 abbrev pub putting : Plan → Reply → Outcome
@@ -61,6 +72,7 @@ putting plan reply = replacing plan.journal (Some plan.file) reply
 abbrev pub outcome_of : Decision → Outcome
 outcome_of (Stay reply) = staying reply
 outcome_of (Put journal file reply) = replacing journal (option_map (λ new. new.text) file) reply
+outcome_of (Adopt journal from steps reply) = leading journal from reply
 
 -- its reply
 abbrev pub reply_in : Decision → Reply
@@ -156,6 +168,33 @@ IsForgetting n dropping o c (Ok outcome) = (o.drifted ≡ false)
     × IsLetGo (length o.past - n) (if dropping then lost_edits o else 0) o c outcome
 IsForgetting n dropping o c (Err fault) = (fault ≡ Drifted) × (o.drifted ≡ true)
 
+-- ---- what another program changed
+
+-- the edit by a tool that makes one text the other, by lines
+abbrev pub edited_by_lines : Tool → List ℕ → List ℕ → Edited
+edited_by_lines tool old new = record { steps = step_between tool old new; text = new; changed = 0; chosen = None }
+
+-- The history that counts, as it is with its end for the file, goes on with one edit from there to the file. The
+-- journal alone is put in place.
+pub record Adopts (o : Opened) (c : Contents) (found : End) (outcome : Outcome) : Type 0 where
+  pub has_end : HasEnd c.file c.journal o found.history
+  pub end : digest_of found.text ≡ found.history.digest
+  pub plan : Plan
+  pub planned : IsPlanned found.history (record { file = found.text; journal = take o.keep c.journal }) ByAdopt
+      (edited_by_lines ByAdopt found.text c.file) plan
+  pub is : outcome ≡ leading plan.journal found.text (Adopted o.next)
+
+-- the end of the history, from a text or, where none is given, from the file's own
+abbrev pub IsEndFor : Option (List ℕ) → Opened → Contents → Result End Fault → Type 0
+IsEndFor old o c = IsEndOf (take o.keep c.journal) (unwrap_or old c.file)
+
+-- nothing is done where the file hasn't drifted
+abbrev pub IsAdoption : Option (List ℕ) → Opened → Contents → Result Outcome Fault → Type 0
+IsAdoption old o c (Ok outcome) =
+    ((o.drifted ≡ false) × (outcome ≡ staying (Unchanged None)))
+    ⊎ ((o.drifted ≡ true) × ((found : End) × IsEndFor old o c (Ok found) × Adopts o c found outcome))
+IsAdoption old o c (Err fault) = (o.drifted ≡ true) × IsEndFor old o c (Err fault)
+
 -- ---- a look
 
 -- what is printed, with nothing written
@@ -173,6 +212,7 @@ IsChangeOutcome c (reverting number force) =
     IsPutBy (λ o. IsRevertOf number force o c.file) (λ o. revert_reply number o.next) c
 IsChangeOutcome c (moving direction through) = Then (IsOpening c.file c.journal) (λ o. IsMove direction through o c)
 IsChangeOutcome c (forgetting n dropping) = Then (IsOpening c.file c.journal) (λ o. IsForgetting n dropping o c)
+IsChangeOutcome c (adopting old) = Then (IsOpening c.file c.journal) (λ o. IsAdoption old o c)
 
 -- ---- what would change
 
@@ -198,11 +238,26 @@ IsPreviewText style c d printed =
     ⊎ ((direction : Direction) × (e : Revision) × LeadsAcross direction e c d
     × IsDiff direction style e.steps c.file d.file (Ok printed))
 
+-- the newest edit of these contents leads from a text to the file
+pub record LeadsFrom (from : List ℕ) (e : Revision) (d : Contents) : Type 0 where
+  pub there : Opened
+  pub opens_there : Opens d.file d.journal there
+  pub others : List Revision
+  pub newest : there.past ≡ e ∷ others
+  pub leads : Leads Forward e from d.file
+
+-- what is printed where the file was another program's: the edit that leads to it
+abbrev pub IsPreviewFrom : Option (List ℕ) → DiffStyle → Contents → Contents → List ℕ → Type 0
+IsPreviewFrom None style c d printed = IsPreviewText style c d printed
+IsPreviewFrom (Some from) style c d printed =
+    (e : Revision) × LeadsFrom from e d × IsDiff Forward style e.steps from d.file (Ok printed)
+
 -- what would be changed is printed, and not done
 pub record IsPreviewOf (style : DiffStyle) (c : Contents) (would outcome : Outcome) : Type 0 where
-  pub text : IsPreviewText style c (written c would.writes) outcome.text
+  pub text : IsPreviewFrom would.from style c (written c would.writes) outcome.text
   pub writes : outcome.writes ≡ []
   pub reply : outcome.reply ≡ would.reply
+  pub from : outcome.from ≡ None
 
 -- ---- requests
 

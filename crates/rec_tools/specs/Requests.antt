@@ -1,6 +1,6 @@
 -- What each request asks for: a look at the file, at its history or at what an edit made; a change, which is an edit, a
--- move through the history, a revert, or that old edits are forgotten; or what a change would make of the file. Each
--- kind has one case in what follows, and each request one row here.
+-- move through the history, a revert, that old edits are forgotten, or that what another program changed becomes an
+-- edit; or what a change would make of the file. Each kind has one case in what follows, and each request one row here.
 use Rattle.std.specs.Prelude.{◌≡◌, ◌↔◌, ℕ, Bool, List, [], ◌∷◌, Option, Result, Ok, Err}
 use Rattle.std.specs.List.{AllZip}
 use Rattle.rec_text.specs.declared.fault.Fault.{Fault}
@@ -18,7 +18,7 @@ use Rattle.rec_tools.specs.declared.request.EditRequest.TheVariants.{Insert, Rep
 use Rattle.rec_tools.specs.declared.request.Look.{Look}
 use Rattle.rec_tools.specs.declared.request.Look.TheVariants.{Show, Info, Check, History, Diff, Log}
 use Rattle.rec_tools.specs.declared.request.Change.{Change}
-use Rattle.rec_tools.specs.declared.request.Change.TheVariants.{Edit, Batch, Undo, Redo, Revert, Forget}
+use Rattle.rec_tools.specs.declared.request.Change.TheVariants.{Edit, Batch, Undo, Redo, Revert, Forget, Adopt}
 use Rattle.rec_tools.specs.declared.request.Request.{Request}
 use Rattle.rec_tools.specs.declared.request.Request.TheVariants.{Look as Looks, Change as Changes, Preview as Previews}
 use Rattle.rec_check.specs.Violations.{AreViolationsOf}
@@ -44,6 +44,9 @@ pub data AskedChange : Type 1 where
   -- all but the newest n of the edits that can be taken back are forgotten; and, or not, those that can be neither
   -- taken back nor made again any more
   forgetting : ℕ → Bool → AskedChange
+  -- what another program changed becomes an edit, on the end of the history, which is found from this text or from the
+  -- file's own
+  adopting : Option (List ℕ) → AskedChange
 
 -- what a request asks for
 pub data Asked : Type 1 where
@@ -132,6 +135,7 @@ change_of (Undo through) = moving Backward through
 change_of (Redo through) = moving Forward through
 change_of (Revert number force) = reverting number force
 change_of (Forget newest dropped) = forgetting newest dropped
+change_of (Adopt old) = adopting old
 
 -- what a request asks for
 abbrev pub asked_of : Request → Asked

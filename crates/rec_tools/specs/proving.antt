@@ -2,6 +2,7 @@
 pub mod Editing
 pub mod Listed
 pub mod Courses
+pub mod Adopting
 pub mod Logs
 pub mod Silently
 pub mod Moving

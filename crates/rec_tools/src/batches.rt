@@ -9,11 +9,11 @@ ghost use Rattle.rec_text.specs.Records.{AreRecords};
 ghost use Rattle.rec_text.specs.Values.{bytes_of, value_of as value_of_piece};
 ghost use Rattle.rec_sex.specs.Meaning.{values_of as values_named};
 ghost use Rattle.rec_journal.specs.declared.event.Tool.{Tool as ToolOf};
-ghost use Rattle.rec_journal.specs.declared.event.Tool.TheVariants.{RecIns, RecDel, RecSet, RecFix, Batch as BatchTool};
+ghost use Rattle.rec_journal.specs.declared.event.Tool.TheVariants.{RecIns, RecDel, RecSet, RecFix};
 ghost use Rattle.rec_journal.specs.Event.{tool_name};
 ghost use Rattle.std.specs.declared.ops.Range.{Range};
 ghost use Rattle.rec_text.specs.declared.or_memory.OrMemory.TheVariants.{OutOfMemory};
-ghost use Rattle.rec_tools.specs.Batches.{names_for as names_of_tool, is_known as is_known_by, IsBy, HasOnly, HasWord, IsPickOf, IsActionOf, IsFreshOf, AsksTool, AsksFor, AreEdits, IsEditAt};
+ghost use Rattle.rec_tools.specs.Batches.{names_for as names_of_tool, is_known as is_known_by, IsBy, HasOnly, HasWord, IsPickOf, IsActionOf, IsFreshOf, AsksTool, AsksFor, AreEdits, IsEditAt, EditsRecords};
 ghost use Rattle.rec_tools.specs.Requests.{HasOneAnswer};
 ghost use Rattle.rec_tools.specs.proving.Finding.{FindsPart, AreEditsIn, unread_by};
 
@@ -207,8 +207,8 @@ fn setting(alloc: Global, database: &Database<'_>, own: &[Element<'_>]) -> EditR
 
 /// The tool of an edit that a word names, if it names one; a batch is no edit.
 fn tool_by(word: &[u8]) -> Option<Tool>
-    ensures { MatchOption result ((tool : ToolOf) → tool ≢ BatchTool → word.now ≡ tool_name tool → ⊥)
-        (λ tool. (word.now ≡ tool_name tool) × (tool ≢ BatchTool)) }
+    ensures { MatchOption result ((tool : ToolOf) → EditsRecords tool → word.now ≡ tool_name tool → ⊥)
+        (λ tool. (word.now ≡ tool_name tool) × EditsRecords tool) }
 {
     if word == b"recins".as_slice() {
         Some(Tool::RecIns)
@@ -262,7 +262,7 @@ fn names_for(tool: Tool) -> &'static [&'static [u8]]
             b"Comment",
         ],
         Tool::RecFix => &[b"Tool"],
-        Tool::Batch => &[],
+        Tool::Batch | Tool::Adopt | Tool::Write => &[],
     }
 }
 
@@ -307,7 +307,7 @@ fn not_taken(
 
 /// The tool that a record is for, of which it has no fields but those that the tool takes.
 fn tool_of(alloc: Global, database: &Database<'_>, own: &[Element<'_>]) -> EditResult<Tool>
-    ensures { FindsPart (λ tool. IsBy tool (pieces_of own.now) × (tool ≢ BatchTool)) result }
+    ensures { FindsPart (λ tool. IsBy tool (pieces_of own.now) × EditsRecords tool) result }
 {
     let Some(word) = value_named(alloc, database, own, b"Tool")? else {
         return Err(OrMemory::Refused(NotAnEdit(toolless(own))));
@@ -333,6 +333,8 @@ fn edit_of(alloc: Global, database: &Database<'_>, own: &[Element<'_>]) -> EditR
         Tool::RecSet => setting(alloc, database, own),
         Tool::RecFix => Ok(EditRequest::AutoFill),
         Tool::Batch => Err(OrMemory::Refused(NotAnEdit(None))),
+        Tool::Adopt => Err(OrMemory::Refused(NotAnEdit(None))),
+        Tool::Write => Err(OrMemory::Refused(NotAnEdit(None))),
     }
 }
 

@@ -11,6 +11,7 @@ ghost use Rattle.rec_tools.specs.declared.decision.Decision.TheVariants.{Put};
 ghost use Rattle.rec_tools.specs.proving.Courses.{HasCourse};
 ghost use Rattle.rec_tools.specs.proving.Editing.{AreEditsFrom, HasSteps};
 
+use crate::adopting::decide_adoption;
 use crate::batches::batch_edits;
 use crate::editing::make;
 use crate::history::history_of;
@@ -43,22 +44,18 @@ pub enum Decision {
         file: Option<NewFile>,
         reply: Reply,
     },
+    /// The journal alone, in which the file is where these steps lead from another text.
+    Adopt {
+        journal: Bytes,
+        from: Bytes,
+        steps: EditSteps,
+        reply: Reply,
+    },
 }
 
 impl Decision {
-    ghost use Rattle.std.specs.Prelude.{◌≡◌, option_copied};
+    ghost use Rattle.std.specs.Prelude.{◌≡◌};
     ghost use Rattle.rec_tools.specs.Outcomes.{reply_in};
-    ghost use Rattle.rec_tools.specs.proving.Courses.{new_file_in};
-
-    /// The new file, if there is one.
-    pub(crate) fn new_file(&self) -> Option<&NewFile>
-        ensures { option_copied result ≡ new_file_in self.now }
-    {
-        match self {
-            Decision::Stay(_) => None,
-            Decision::Put { file, .. } => file.as_ref(),
-        }
-    }
 
     /// The reply.
     pub fn reply(&self) -> Reply
@@ -67,6 +64,7 @@ impl Decision {
         match self {
             Decision::Stay(reply) => *reply,
             Decision::Put { reply, .. } => *reply,
+            Decision::Adopt { reply, .. } => *reply,
         }
     }
 }
@@ -339,5 +337,6 @@ pub fn decide(
         Change::Forget { newest, dropped } => {
             decide_forgetting(alloc, file, journal, *newest as usize, *dropped)
         }
+        Change::Adopt(old) => decide_adoption(alloc, file, journal, old),
     }
 }

@@ -56,6 +56,14 @@ fn leave(decision: Decision, file: &mut Bytes, journal: &mut Bytes) -> Reply
             turn(file, new);
             reply
         }
+        Decision::Adopt {
+            journal: put,
+            reply,
+            ..
+        } => {
+            *journal = put;
+            reply
+        }
     }
 }
 

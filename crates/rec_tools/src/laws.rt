@@ -3,7 +3,7 @@ ghost use Rattle.rec_tools.specs.Outcomes.{OneOutcome};
 ghost use Rattle.std.specs.Prelude.{[]};
 ghost use Rattle.rec_journal.specs.History.{IsRegular};
 ghost use Rattle.rec_tools.specs.Guarantee.{OutcomesAreSteps, StopsAreSteps, WritesAreRegular};
-ghost use Rattle.rec_tools.specs.Laws.{OneStep, OneState, FirstStands, PreviewIsShowAfter, UndoBringsBack, RedoBringsBack, OutsideIsNoticed};
+ghost use Rattle.rec_tools.specs.Laws.{OneStep, OneState, FirstStands, PreviewIsShowAfter, UndoBringsBack, RedoBringsBack, OutsideIsNoticed, AdoptedIsAnEdit, AnyTextWillDo, AdoptionIsShownAfter};
 ghost use Rattle.rec_tools.specs.Through.{MovesLeadThere};
 
 /// A request comes to one outcome on two contents at most.
@@ -53,6 +53,14 @@ pub fn moves_bring_back()
 /// A file that was changed outside is noticed: nothing is taken back or made again, and an edit begins the history anew.
 pub fn outside_is_noticed()
     ensures { OutsideIsNoticed }
+{}
+
+/// A change by another program that is adopted stands as an edit, any text of the state before will do for it, and its preview is
+/// what is shown of it.
+pub fn adopted_is_an_edit()
+    ensures edit { AdoptedIsAnEdit }
+    ensures any_text { AnyTextWillDo }
+    ensures shown { AdoptionIsShownAfter }
 {}
 
 /// Moves through an edit take back, or make again, each edit as far as that one and no further; where it doesn't lie that

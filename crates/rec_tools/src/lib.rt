@@ -2,6 +2,7 @@
 //! `docs/guarantees.md` says what is promised, and `specs/` states it, from `Home` to `Guarantee`.
 #![tactic(auto)]
 
+mod adopting;
 mod bad_edits;
 mod batches;
 mod decision;
@@ -31,8 +32,8 @@ pub use dry::preview_through;
 pub use editing::make;
 pub use home::{Home, Which};
 pub use laws::{
-    first_stands, moves_bring_back, moves_lead_there, one_outcome, one_state, one_step,
-    outcomes_are_steps, outside_is_noticed, preview_is_show_after, stops_are_steps,
+    adopted_is_an_edit, first_stands, moves_bring_back, moves_lead_there, one_outcome, one_state,
+    one_step, outcomes_are_steps, outside_is_noticed, preview_is_show_after, stops_are_steps,
 };
 pub use memory::MemoryHome;
 pub use missing::{Missing, missing_fields};

@@ -6,11 +6,12 @@ ghost use Rattle.rec_tools.specs.Steps.{IsRefusal};
 ghost use Rattle.rec_tools.specs.Printouts.{PutsPrintout};
 ghost use Rattle.rec_tools.specs.Requests.{change_of};
 ghost use Rattle.rec_tools.specs.Outcomes.{Decides};
-ghost use Rattle.rec_tools.specs.proving.Courses.{LeadsFromFile, IsTextOf, IsPreviewed, replied};
+ghost use Rattle.rec_tools.specs.proving.Courses.{LeadsFromFile, LeadsSo, IsTextOf, IsDecisionText, IsPreviewed, replied};
 
 use crate::decision::{Decision, NewFile, decide};
 use crate::request::Change;
 use rec_diff::{DiffStyle, write_diff};
+use rec_journal::Direction;
 use rec_text::{Fault, Refusal, Sink};
 use std::alloc::Global;
 
@@ -37,6 +38,30 @@ fn write_new<S: Sink>(
     }
 }
 
+/// Prints what becomes of a file by a decision, or what became of it before, as a diff.
+fn write_decision<S: Sink>(
+    alloc: Global,
+    file: &[u8],
+    decision: &Decision,
+    style: &DiffStyle,
+    out: &mut S,
+) -> Result<(), Fault>
+    requires { LeadsSo file.now decision.now }
+    ensures written { PrintsAndCounts S.contents S.failure_count out.old out.new
+        (Puts (IsDecisionText style.now file.now decision.now)) result }
+    ensures refusals { IsOkUnlessEither result Fault.OutOfMemory Fault.StoreFailed }
+{
+    match decision {
+        Decision::Stay(_) => Ok(()),
+        Decision::Put { file: new, .. } => write_new(alloc, file, new.as_ref(), style, out),
+        Decision::Adopt { from, steps, .. } => {
+            let steps = steps.as_slice();
+            let from = from.as_slice();
+            write_diff(alloc, out, style, Direction::Forward, steps, from, file)
+        }
+    }
+}
+
 /// Prints what a change would make of a file, as a diff, and gives the decision.
 pub(crate) fn print_decision<S: Sink>(
     alloc: Global,
@@ -52,6 +77,6 @@ pub(crate) fn print_decision<S: Sink>(
     ensures refusals { IfErr result IsRefusal }
 {
     let decision = decide(alloc, file, journal, change)?;
-    write_new(alloc, file, decision.new_file(), style, out)?;
+    write_decision(alloc, file, &decision, style, out)?;
     Ok(decision)
 }

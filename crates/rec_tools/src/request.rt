@@ -162,6 +162,9 @@ pub enum Change {
     /// Forgets all but the newest of the edits that can be taken back; those that can be made again stay. With `dropped`
     /// the edits go too that can be neither taken back nor made again any more.
     Forget { newest: u32, dropped: bool },
+    /// Makes the change by another program since the last edit an edit of the history, of which this is some text. Where none is
+    /// given the file's own text is looked for in it. The file stays as it is.
+    Adopt(Option<Bytes>),
 }
 
 /// A request on a file and its journal.
@@ -213,4 +216,6 @@ pub enum Reply {
         /// The number of those that could be neither taken back nor made again any more.
         dropped: usize,
     },
+    /// What another program changed became the edit of this number.
+    Adopted(usize),
 }

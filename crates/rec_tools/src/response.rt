@@ -100,6 +100,9 @@ pub(crate) fn decided(decision: Result<Decision, Refusal>, file: Bytes) -> Resul
                 reply,
             },
         ) => Ok(Response::of_change(reply, file, after, Some(journal))),
+        Ok(Decision::Adopt { journal, reply, .. }) => {
+            Ok(Response::of_change(reply, file, None, Some(journal)))
+        }
         Err(refusal) => Err(refusal),
     }
 }

@@ -61,6 +61,10 @@ fn carry_out<H: Home>(home: &mut H, decision: Decision, file: Bytes) -> Result<R
             home.put(journal.as_slice(), slice_of(&new))?;
             Ok(Response::of_change(reply, file, new, Some(journal)))
         }
+        Decision::Adopt { journal, reply, .. } => {
+            home.put(journal.as_slice(), None)?;
+            Ok(Response::of_change(reply, file, None, Some(journal)))
+        }
     }
 }
 

@@ -16,8 +16,7 @@ use Rattle.rec_disk.specs.Lasting.{shown}
 use Rattle.rec_disk.specs.Paths.{journal_of}
 use Rattle.rec_journal.specs.declared.patch.Direction.{Direction}
 use Rattle.rec_diff.specs.declared.style.DiffStyle.{DiffStyle}
-use Rattle.rec_tools.specs.declared.request.Change.{Change}
-use Rattle.rec_tools.specs.declared.request.Change.TheVariants.{Batch}
+use Rattle.rec_tools.specs.declared.request.Change.TheVariants.{Batch, Adopt}
 use Rattle.rec_tools.specs.declared.request.Request.{Request}
 use Rattle.rec_tools.specs.declared.request.Request.TheVariants.{Look as Looks, Change as Changes, Preview as Previews}
 use Rattle.rec_tools.specs.declared.request.Reply.{Reply}
@@ -36,7 +35,8 @@ use Rattle.rec_files.specs.Succeeding.{IsShut}
 use Rattle.rec_command.specs.declared.args.Order.{Order}
 use Rattle.rec_command.specs.declared.args.Order.TheVariants.{Look as LookOrder, Change as ChangeOrder}
 use Rattle.rec_command.specs.declared.args.Order.TheVariants.{Preview as PreviewOrder}
-use Rattle.rec_command.specs.declared.args.ChangeOrder.TheVariants.{Whole, BatchAt, Through as ThroughOrder}
+use Rattle.rec_command.specs.declared.args.ChangeOrder.{ChangeOrder as OrderedChange}
+use Rattle.rec_command.specs.declared.args.ChangeOrder.TheVariants.{Whole, BatchAt, AdoptAt, Through as ThroughOrder}
 use Rattle.rec_command.specs.declared.args.CommandLine.{CommandLine}
 use Rattle.rec_command.specs.declared.args.JournalPath.{JournalPath}
 use Rattle.rec_command.specs.declared.args.JournalPath.TheVariants.{Unused, Default, Given}
@@ -45,28 +45,49 @@ use Rattle.rec_command.specs.Status.{line_of, status_of}
 use Rattle.rec_command.specs.Refusals.{AsksForHelp, IsParsed, refusal_fault}
 use Rattle.recu.specs.declared.job.Job.{Job}
 use Rattle.recu.specs.declared.job.Job.TheVariants.{Once, Through as MovesThrough, DryThrough}
+use Rattle.recu.specs.declared.job.Work.{Work}
+use Rattle.recu.specs.declared.job.Work.TheVariants.{Once as Makes, Through as Moves}
 
 -- ---- the job and the home
 
--- a batch with the text at a path, where the disk tells what stands there, or of standard input for `-`
-abbrev pub IsBatchAt : (List ℕ → List ℕ) → Option Story → List ℕ → Bool → Change → Type 0
-IsBatchAt leads story path force change = (text : List ℕ)
-    × (path ≢ codes "-" → Told story (λ s. shown s.bytes (s.at (leads path)) ≡ Some text))
-    × (change ≡ Batch text force)
+-- the text at a path, where the disk tells what stands there, or any of standard input for `-`
+abbrev pub IsTextAt : (List ℕ → List ℕ) → Option Story → List ℕ → List ℕ → Type 0
+IsTextAt leads story path text = path ≢ codes "-" → Told story (λ s. shown s.bytes (s.at (leads path)) ≡ Some text)
 
--- what an order has done; or the text of its batch can't be read, or there is no memory for it
+-- the same, if a path is given
+abbrev pub IsTextAtIf : (List ℕ → List ℕ) → Option Story → Option (List ℕ) → Option (List ℕ) → Type 0
+IsTextAtIf leads story (Some path) (Some text) = IsTextAt leads story path text
+IsTextAtIf leads story None None = Unit {0}
+IsTextAtIf leads story path text = ⊥
+
+-- the change that is ordered, with its texts; or one of these can't be read, or there is no memory for it
+abbrev pub IsWorkOf : (List ℕ → List ℕ) → Option Story → OrderedChange → Result Work Fault → Type 0
+IsWorkOf leads story (Whole change) found = found ≡ Ok (Makes change)
+IsWorkOf leads story (ThroughOrder direction number) found = found ≡ Ok (Moves direction number)
+IsWorkOf leads story (BatchAt path force) (Ok work) = (text : List ℕ)
+    × IsTextAt leads story (string_bytes path) text × (work ≡ Makes (Batch text force))
+IsWorkOf leads story (AdoptAt old) (Ok work) = (text : Option (List ℕ))
+    × IsTextAtIf leads story (option_map string_bytes old) text × (work ≡ Makes (Adopt text))
+IsWorkOf leads story _ (Err fault) = (fault ≡ OutOfMemory) ⊎ (fault ≡ StoreFailed)
+
+-- a change that is made, and one of which is printed what it would change
+abbrev pub job_done : Work → Job
+job_done (Makes change) = Once (Changes change)
+job_done (Moves direction number) = MovesThrough direction number
+
+abbrev pub job_tried : DiffStyle → Work → Job
+job_tried style (Makes change) = Once (Previews change style)
+job_tried style (Moves direction number) = DryThrough direction number style
+
+-- what an order has done, or why it can't be told
 abbrev pub IsJobOf : (List ℕ → List ℕ) → Option Story → Order → Result Job Fault → Type 0
 IsJobOf leads story (LookOrder look) found = found ≡ Ok (Once (Looks look))
-IsJobOf leads story (ChangeOrder (Whole change)) found = found ≡ Ok (Once (Changes change))
-IsJobOf leads story (PreviewOrder (Whole change) style) found = found ≡ Ok (Once (Previews change style))
-IsJobOf leads story (ChangeOrder (ThroughOrder direction number)) found = found ≡ Ok (MovesThrough direction number)
-IsJobOf leads story (PreviewOrder (ThroughOrder direction number) style) found =
-    found ≡ Ok (DryThrough direction number style)
-IsJobOf leads story (ChangeOrder (BatchAt path force)) (Ok job) =
-    (batch : Change) × IsBatchAt leads story (string_bytes path) force batch × (job ≡ Once (Changes batch))
-IsJobOf leads story (PreviewOrder (BatchAt path force) style) (Ok job) =
-    (batch : Change) × IsBatchAt leads story (string_bytes path) force batch × (job ≡ Once (Previews batch style))
-IsJobOf leads story _ (Err fault) = (fault ≡ OutOfMemory) ⊎ (fault ≡ StoreFailed)
+IsJobOf leads story (ChangeOrder order) (Ok job) =
+    (work : Work) × IsWorkOf leads story order (Ok work) × (job ≡ job_done work)
+IsJobOf leads story (PreviewOrder order style) (Ok job) =
+    (work : Work) × IsWorkOf leads story order (Ok work) × (job ≡ job_tried style work)
+IsJobOf leads story (ChangeOrder order) (Err fault) = IsWorkOf leads story order (Err fault)
+IsJobOf leads story (PreviewOrder order style) (Err fault) = IsWorkOf leads story order (Err fault)
 
 -- The paths of the file and the journal of a home, by those that are given: these; but where the default journal of a
 -- file is meant, that of the file to which its path leads, and its journal, where the disk tells what stands there; or

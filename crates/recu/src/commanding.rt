@@ -5,18 +5,19 @@ ghost use Rattle.rec_text.specs.declared.fault.Fault.{Fault as FaultOf};
 ghost use Rattle.rec_tools.specs.declared.request.Reply.{Reply as ReplyOf};
 ghost use Rattle.rec_command.specs.Status.{Says};
 ghost use Rattle.recu.specs.Answers.{out_of, HasLostReader, IsAnswerTo, IsAnswerToRefused, IsDone, IsFinished};
-ghost use Rattle.recu.specs.Answers.{ArePathsOf, IsBatchAt, IsCarriedOut, IsFoundFor, IsHomeFor, IsJobOf};
+ghost use Rattle.recu.specs.Answers.{ArePathsOf, IsCarriedOut, IsFoundFor, IsHomeFor, IsJobOf};
+ghost use Rattle.recu.specs.Answers.{IsTextAt, IsTextAtIf, IsWorkOf};
 ghost use Rattle.rec_text.specs.Faults.{IsOkUnlessEither};
 
 use crate::answering::answer_by;
-use crate::job::Job;
-use crate::saying::{say_empty, say_more, say_waiting};
+use crate::job::{Job, Work};
+use crate::saying::{TextPaths, say_empty, say_more, say_waiting};
 use rec_command::{ChangeOrder, CommandLine, JournalPath, Order, finish, parse};
 use rec_disk::Disk;
 use rec_files::{
-    DefaultPaths, DiskHome, StandardOutput, batch_text, default_paths, explain_output,
+    DefaultPaths, DiskHome, StandardOutput, default_paths, explain_output, whole_text,
 };
-use rec_tools::{Change, DiffStyle, Fault, Home, Refusal, Reply, Request, Response, Sink};
+use rec_tools::{Bytes, Change, Fault, Home, Refusal, Reply, Request, Response, Sink};
 use std::io;
 use std::io::Write;
 use std::rt::Runtime;
@@ -36,8 +37,7 @@ struct Paths {
 #[derive(Drop)]
 struct Task {
     job: Job,
-    /// The path of the text of a batch.
-    batch: Option<String>,
+    texts: TextPaths,
     paths: Paths,
 }
 
@@ -178,13 +178,13 @@ fn do_task<D: Disk + Drop, W: Write + Drop>(
         (option_map (out_of W.contents) result.2) (option_map string_bytes task.paths.file)
         (option_map string_bytes task.paths.journal) task.job result.0 }
 {
-    let Task { job, batch, paths } = task;
+    let Task { job, texts, paths } = task;
     if paths.file.is_none() {
         say_waiting(rt, &job);
     }
     let mut home = home_for(rt, disk, paths, &job);
     let (answer, printed) = answer_by(rt, &mut home, &job, out);
-    say_more(rt, &home, &job, &batch, &answer);
+    say_more(rt, &home, &job, &texts, &answer);
     (answer, home.into_disk(), printed)
 }
 
@@ -201,90 +201,91 @@ fn task_of<D: Disk>(rt: &HostRuntime, disk: &mut D, line: CommandLine) -> Result
         file,
         journal,
     } = line;
-    let (job, batch) = job_of(rt, disk, order)?;
+    let (job, texts) = job_of(rt, disk, order)?;
     let paths = paths_of(rt, disk, file, journal)?;
-    Ok(Task { job, batch, paths })
+    Ok(Task { job, texts, paths })
 }
 
-/// What an order has done, and the path of its text where it is a batch.
-fn job_of<D: Disk>(
-    rt: &HostRuntime,
-    disk: &mut D,
-    order: Order,
-) -> Result<(Job, Option<String>), Fault>
+/// What an order has done, and the paths of its texts.
+fn job_of<D: Disk>(rt: &HostRuntime, disk: &mut D, order: Order) -> Result<(Job, TextPaths), Fault>
     ensures same { D.story disk.new ≡ D.story disk.old }
     ensures works { D.works disk.old → D.works disk.new }
     ensures job { IfOk result (λ found. IsJobOf D.leads (D.story disk.old) order (Ok found.0)) }
     ensures refused { IfErr result (λ fault. IsJobOf D.leads (D.story disk.old) order (Err fault)) }
 {
     match order {
-        Order::Look(look) => Ok((Job::Once(Request::Look(look)), None)),
-        Order::Change(order) => change_job(rt, disk, order),
-        Order::Preview(order, style) => preview_job(rt, disk, order, style),
+        Order::Look(look) => Ok((Job::Once(Request::Look(look)), TextPaths::none())),
+        Order::Change(order) => {
+            let (work, paths) = work_of(rt, disk, order)?;
+            Ok((Job::done(work), paths))
+        }
+        Order::Preview(order, style) => {
+            let (work, paths) = work_of(rt, disk, order)?;
+            Ok((Job::tried(work, style), paths))
+        }
     }
 }
 
-/// The same of a change.
-fn change_job<D: Disk>(
+/// The change that an order asks for, with its texts, and the paths of these.
+fn work_of<D: Disk>(
     rt: &HostRuntime,
     disk: &mut D,
     order: ChangeOrder,
-) -> Result<(Job, Option<String>), Fault>
+) -> Result<(Work, TextPaths), Fault>
     ensures same { D.story disk.new ≡ D.story disk.old }
     ensures works { D.works disk.old → D.works disk.new }
-    ensures job { IfOk result (λ found. IsJobOf D.leads (D.story disk.old) (Order.Change order) (Ok found.0)) }
-    ensures refused { IfErr result (λ fault. IsJobOf D.leads (D.story disk.old) (Order.Change order) (Err fault)) }
+    ensures work { IfOk result (λ found. IsWorkOf D.leads (D.story disk.old) order (Ok found.0)) }
+    ensures refused { IfErr result (λ fault. IsWorkOf D.leads (D.story disk.old) order (Err fault)) }
 {
     match order {
-        ChangeOrder::Whole(change) => Ok((Job::Once(Request::Change(change)), None)),
-        ChangeOrder::BatchAt { path, force } => {
-            let batch = batch_at(rt, disk, path.as_str(), force)?;
-            Ok((Job::Once(Request::Change(batch)), Some(path)))
-        }
-        ChangeOrder::Through(direction, number) => Ok((Job::Through(direction, number), None)),
-    }
-}
-
-/// The same of a dry run of a change.
-fn preview_job<D: Disk>(
-    rt: &HostRuntime,
-    disk: &mut D,
-    order: ChangeOrder,
-    style: DiffStyle,
-) -> Result<(Job, Option<String>), Fault>
-    ensures same { D.story disk.new ≡ D.story disk.old }
-    ensures works { D.works disk.old → D.works disk.new }
-    ensures job { IfOk result (λ found. IsJobOf D.leads (D.story disk.old) (Order.Preview order style) (Ok found.0)) }
-    ensures refused { IfErr result (λ fault.
-        IsJobOf D.leads (D.story disk.old) (Order.Preview order style) (Err fault)) }
-{
-    match order {
-        ChangeOrder::Whole(change) => Ok((Job::Once(Request::Preview(change, style)), None)),
-        ChangeOrder::BatchAt { path, force } => {
-            let batch = batch_at(rt, disk, path.as_str(), force)?;
-            Ok((Job::Once(Request::Preview(batch, style)), Some(path)))
-        }
+        ChangeOrder::Whole(change) => Ok((Work::Once(change), TextPaths::none())),
         ChangeOrder::Through(direction, number) => {
-            Ok((Job::DryThrough(direction, number, style), None))
+            Ok((Work::Through(direction, number), TextPaths::none()))
+        }
+        ChangeOrder::BatchAt { path, force } => {
+            let text = text_at(rt, disk, path.as_str())?;
+            let paths = TextPaths {
+                text: Some(path),
+                old: None,
+            };
+            Ok((Work::Once(Change::Batch { text, force }), paths))
+        }
+        ChangeOrder::AdoptAt(old) => {
+            let text = text_at_if(rt, disk, &old)?;
+            Ok((
+                Work::Once(Change::Adopt(text)),
+                TextPaths { text: None, old },
+            ))
         }
     }
 }
 
-/// The batch whose text is that at a path.
-fn batch_at<D: Disk>(
+/// The text at a path, if one is given.
+fn text_at_if<D: Disk>(
     rt: &HostRuntime,
     disk: &mut D,
-    path: &str,
-    force: bool,
-) -> Result<Change, Fault>
+    path: &Option<String>,
+) -> Result<Option<Bytes>, Fault>
     ensures same { D.story disk.new ≡ D.story disk.old }
     ensures works { D.works disk.old → D.works disk.new }
-    ensures batch { IfOk result (IsBatchAt D.leads (D.story disk.old) path.now force) }
+    ensures text { IfOk result (IsTextAtIf D.leads (D.story disk.old) (option_map string_bytes path.now)) }
+    ensures refusals { IsOkUnlessEither result Fault.OutOfMemory Fault.StoreFailed }
+{
+    match path {
+        Some(path) => Ok(Some(text_at(rt, disk, path.as_str())?)),
+        None => Ok(None),
+    }
+}
+
+/// The text at a path.
+fn text_at<D: Disk>(rt: &HostRuntime, disk: &mut D, path: &str) -> Result<Bytes, Fault>
+    ensures same { D.story disk.new ≡ D.story disk.old }
+    ensures works { D.works disk.old → D.works disk.new }
+    ensures text { IfOk result (IsTextAt D.leads (D.story disk.old) path.now) }
     ensures refusals { IsOkUnlessEither result Fault.OutOfMemory Fault.StoreFailed }
 {
     say_empty(rt, path);
-    let text = batch_text(rt, disk, path)?;
-    Ok(Change::Batch { text, force })
+    whole_text(rt, disk, path)
 }
 
 /// The paths of the home of a file and a journal. For the default journal the links at the end of the file's path are followed

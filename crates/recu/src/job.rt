@@ -1,9 +1,17 @@
 //! What a command line has done.
 ghost use Rattle.std.specs.Prelude.{◌≡◌, ◌≢◌};
-ghost use Rattle.recu.specs.Answers.{DoesChange};
+ghost use Rattle.recu.specs.Answers.{job_done, job_tried, DoesChange};
 
 use rec_files::{Access, access_of};
-use rec_tools::{DiffStyle, Direction, Request};
+use rec_tools::{Change, DiffStyle, Direction, Request};
+
+/// A change that a command line asks for.
+#[derive(Drop)]
+pub enum Work {
+    Once(Change),
+    /// Moves that way as far as the edit of a number, each a change of its own.
+    Through(Direction, usize),
+}
 
 /// What is done to a file and its journal.
 #[derive(Drop)]
@@ -17,6 +25,26 @@ pub enum Job {
 }
 
 impl Job {
+    /// The change is made.
+    pub fn done(work: Work) -> Job
+        ensures { result ≡ job_done work }
+    {
+        match work {
+            Work::Once(change) => Job::Once(Request::Change(change)),
+            Work::Through(direction, number) => Job::Through(direction, number),
+        }
+    }
+
+    /// What it would change is printed.
+    pub fn tried(work: Work, style: DiffStyle) -> Job
+        ensures { result ≡ job_tried style work }
+    {
+        match work {
+            Work::Once(change) => Job::Once(Request::Preview(change, style)),
+            Work::Through(direction, number) => Job::DryThrough(direction, number, style),
+        }
+    }
+
     /// What it may do with the two.
     pub fn access(&self) -> Access
         ensures look { result ≡ Access.Look → ¬ DoesChange self.now }

@@ -25,7 +25,25 @@ pub fn say_waiting(rt: &HostRuntime, job: &Job) {
     }
 }
 
-/// Says that the path of a batch is empty, if it is: then no file is found.
+/// The paths of the texts that a change was given.
+#[derive(Drop)]
+pub struct TextPaths {
+    /// That of a batch.
+    pub text: Option<String>,
+    /// That of a text before.
+    pub old: Option<String>,
+}
+
+impl TextPaths {
+    pub fn none() -> TextPaths {
+        TextPaths {
+            text: None,
+            old: None,
+        }
+    }
+}
+
+/// Says that the path of a text is empty, if it is: then no file is found.
 pub fn say_empty(rt: &HostRuntime, path: &str) {
     if path.is_empty() {
         say(rt, &explain_empty(rt.alloc()));
@@ -60,12 +78,12 @@ pub fn say_more<D: Disk + Drop>(
     rt: &HostRuntime,
     home: &DiskHome<'_, HostRuntime, D>,
     job: &Job,
-    batch: &Option<String>,
+    texts: &TextPaths,
     answer: &Result<Response, Refusal>,
 )
     requires shut { IsShut home.now.both }
 {
-    let Some(names) = names_told(rt, home, batch) else {
+    let Some(names) = names_told(rt, home, texts) else {
         return;
     };
     let about = about(home, &names);
@@ -96,10 +114,11 @@ fn say_refusal(rt: &HostRuntime, about: &About<'_>, request: &Request, refusal: 
     say(rt, &explain(rt.alloc(), about, request, refusal));
 }
 
-/// What a batch, the file and its journal are called, and the file's path, as they are told.
+/// What the texts, the file and its journal are called, and the file's path, as they are told.
 #[derive(Drop)]
 struct Names {
-    batch: Option<String>,
+    text: Option<String>,
+    old: Option<String>,
     file: String,
     path: String,
     journal: String,
@@ -108,17 +127,23 @@ struct Names {
 fn names_told<D: Disk + Drop>(
     rt: &HostRuntime,
     home: &DiskHome<'_, HostRuntime, D>,
-    batch: &Option<String>,
+    texts: &TextPaths,
 ) -> Option<Names> {
     Some(Names {
-        batch: match batch {
-            Some(path) => Some(told(rt, path.as_str())?),
-            None => None,
-        },
+        text: told_if(rt, &texts.text)?,
+        old: told_if(rt, &texts.old)?,
         file: told(rt, home.name())?,
         path: told(rt, home.path(Which::Base))?,
         journal: told(rt, home.path(Which::Journal))?,
     })
+}
+
+/// A path as it is told, if one was given; none where there is no memory for it.
+fn told_if(rt: &HostRuntime, path: &Option<String>) -> Option<Option<String>> {
+    match path {
+        Some(path) => Some(Some(told(rt, path.as_str())?)),
+        None => Some(None),
+    }
 }
 
 /// A path as it is told, if there is memory for it.
@@ -159,7 +184,8 @@ fn print_report(rt: &HostRuntime, fault: &Fault) {
 
 fn about<'a, D: Disk + Drop>(home: &DiskHome<'_, HostRuntime, D>, names: &'a Names) -> About<'a> {
     About {
-        batch: names.batch.as_deref(),
+        text: names.text.as_deref(),
+        old: names.old.as_deref(),
         file: names.file.as_str(),
         path: names.path.as_str(),
         journal: names.journal.as_str(),

@@ -1,8 +1,8 @@
 //! What the words give of an option.
-ghost use Rattle.std.specs.Prelude.{◌≡◌, map, IfOk, Some, option_map};
+ghost use Rattle.std.specs.Prelude.{◌≡◌, map, string_bytes, IfOk, Some, option_map};
 ghost use Rattle.clap.specs.Words.{first_of, found_of, rows_of};
 ghost use Rattle.rec_command.specs.Refusals.{IsOrRefuses};
-ghost use Rattle.rec_command.specs.Words.{file_given, has_flag, number_given, texts_given};
+ghost use Rattle.rec_command.specs.Words.{before_file_given, file_given, has_flag, texts_given};
 
 use super::refusal::Refusal;
 use clap::ArgMatches;
@@ -16,9 +16,9 @@ pub fn given<'m>(options: &'m ArgMatches, name: &str) -> Option<&'m str>
     options.get_str(name)
 }
 
-/// N, where it stands before FILE.
-pub fn number<'m>(options: &'m ArgMatches) -> Option<&'m str>
-    ensures { option_map (λ text. text.now) result ≡ number_given (rows_of (found_of options.now)) }
+/// The word before FILE, where one stands there.
+pub fn before_file<'m>(options: &'m ArgMatches) -> Option<&'m str>
+    ensures { option_map (λ text. text.now) result ≡ before_file_given (rows_of (found_of options.now)) }
 {
     match given(options, "second") {
         Some(_) => given(options, "file"),
@@ -43,6 +43,16 @@ pub fn file_name(alloc: Global, options: &ArgMatches) -> Result<Bytes, Refusal>
     match file(options) {
         Some(file) => Ok(Bytes::copy_of(alloc, file.as_bytes())?),
         None => Err(Refusal::Rule("FILE is needed")),
+    }
+}
+
+/// A copy of a path.
+pub fn copied(alloc: Global, path: Option<&str>) -> Result<Option<String>, AllocError>
+    ensures { IfOk result (λ copy. option_map string_bytes copy ≡ option_map (λ path. path.now) path.entry) }
+{
+    match path {
+        Some(path) => Ok(Some(String::from_str(alloc, path)?)),
+        None => Ok(None),
     }
 }
 

@@ -5,7 +5,7 @@ pub const VERSION: &str = "0.1.0";
 pub const ABOUT: &str = "Prints, checks and edits rec files, and undoes edits";
 
 pub const PROGRAM_HELP: &str =
-    "A file begins empty (touch new.rec). A record in it is a line NAME: VALUE for\neach field, and an empty line ends it. An edit that was wrong is taken back by\nrecu undo FILE, and made again by recu redo FILE; recu revert N FILE takes the\nedit N back, and leaves those after it. recu history FILE prints which edits\nthere are, and recu show FILE what the newest changed. With --dry-run a command\nprints what it would change, and changes nothing. A change by another program\nends that history. One command at a time edits a file: a second one is refused,\nand doesn't wait.\n\nFILE.new and the journal's .new are working names of recu: each file is written\nunder its own before it takes its place. What an interrupted recu left there is\nremoved; with any other file there the command is refused, and the file stays.\n\nExamples:\n  recu recsel -e \"#Phone\" contacts.rec\n  recu recdel -n 1 contacts.rec\n  recu undo contacts.rec";
+    "A file begins empty (touch new.rec). A record in it is a line NAME: VALUE for\neach field, and an empty line ends it. An edit that was wrong is taken back by\nrecu undo FILE, and made again by recu redo FILE; recu revert N FILE takes the\nedit N back, and leaves those after it. recu history FILE prints which edits\nthere are, and recu show FILE what the newest changed. With --dry-run a command\nprints what it would change, and changes nothing. A change by another program\nends that history, unless recu adopt OLD FILE makes it an edit too. One command\nat a time edits a file: a second one is refused, and doesn't wait.\n\nFILE.new and the journal's .new are working names of recu: each file is written\nunder its own before it takes its place. What an interrupted recu left there is\nremoved; with any other file there the command is refused, and the file stays.\n\nExamples:\n  recu recsel -e \"#Phone\" contacts.rec\n  recu recdel -n 1 contacts.rec\n  recu undo contacts.rec";
 
 pub const RECSEL_HELP: &str =
     "By default -t takes the records of no type, or else those of the only type. Only\none of -e, -n, -q and --where can be given, and only one of -p, -P, -R and -c.\n\nExamples:\n  recu recsel -e \"#Phone || Note ~ 'second'\" -P Name contacts.rec\n  recu recsel -n 0,2 -p Name,Email contacts.rec\n  recu recsel -t Book -q Austen library.rec\n  recu recsel --where 'Name=Ada Lovelace' contacts.rec";
@@ -62,8 +62,16 @@ pub const REVERT_ABOUT: &str =
 pub const REVERT_HELP: &str =
     "That is an edit of its own, which recu undo FILE takes back. Where later edits\nchanged the same lines it is refused, and the newest of them is named: revert\nthat one first, or take back edit N and all later ones with\nrecu undo --through N FILE.\n\nExamples:\n  recu revert 1 contacts.rec\n  recu revert 1 --journal edits.rec contacts.rec";
 
+pub const ADOPT_USAGE: &str = "recu adopt [OPTIONS] [OLD] FILE";
+
+pub const ADOPT_ABOUT: &str =
+    "Makes a change by another program, an editor or a checkout too, an edit, so that\nthe history goes on. FILE stays as it is.";
+
+pub const ADOPT_HELP: &str =
+    "OLD stands before FILE. It has the text before the change, or any older text of\nthe history, such as that of the last commit; - is standard input. Without OLD\nthe text of FILE is looked for, which is enough where an older text was brought\nback. The edit is taken back by recu undo FILE.\n\nExamples:\n  git show HEAD:contacts.rec | recu adopt - contacts.rec\n  recu adopt contacts.rec~ contacts.rec\n  recu adopt contacts.rec";
+
 pub const HISTORY_HELP: &str =
-    "Prints a line done NUMBER TOOL for each edit that can be undone, the oldest\nfirst, and then a line undone NUMBER TOOL for each that can be redone, the\nnearest first. For a file that was changed by another program it prints only\ndrifted: nothing can be undone then, and the next edit begins a new history.\n--patch prints under each line what recu show NUMBER FILE prints.\n\nExamples:\n  recu history contacts.rec\n  recu history --patch contacts.rec\n  recu history --journal edits.rec contacts.rec";
+    "Prints a line done NUMBER TOOL for each edit that can be undone, the oldest\nfirst, and then a line undone NUMBER TOOL for each that can be redone, the\nnearest first. For a file that was changed by another program it prints only\ndrifted: nothing can be undone then, and the next edit begins a new history,\nunless recu adopt makes the change an edit. --patch prints under each line what\nrecu show NUMBER FILE prints.\n\nExamples:\n  recu history contacts.rec\n  recu history --patch contacts.rec\n  recu history --journal edits.rec contacts.rec";
 
 pub const SHOW_USAGE: &str = "recu show [OPTIONS] [N] FILE";
 

@@ -5,13 +5,13 @@ ghost use Rattle.rec_disk.specs.Paths.{AreApart};
 ghost use Rattle.rec_command.specs.Refusals.{IsOrRefuses};
 ghost use Rattle.rec_command.specs.Words.{file_given, IsJournal};
 
-use super::found::{file, given};
+use super::found::{copied, file, given};
 use super::refusal::Refusal;
 use super::{JournalPath, Order};
 use clap::ArgMatches;
 use rec_disk::are_apart;
 use rec_tools::Look;
-use std::alloc::{AllocError, Global};
+use std::alloc::Global;
 
 const CLASH: &str = "--journal: FILE and PATH are one path, or one is the other with .new appended";
 
@@ -33,16 +33,6 @@ pub fn paths_of(alloc: Global, order: &Order, options: &ArgMatches) -> Result<Pa
     let journal = journal(alloc, order, file, given(options, "journal"))?;
     let file = copied(alloc, file)?;
     Ok(Paths { file, journal })
-}
-
-/// A copy of a path.
-fn copied(alloc: Global, path: Option<&str>) -> Result<Option<String>, AllocError>
-    ensures { IfOk result (λ copy. option_map string_bytes copy ≡ option_map (λ path. path.now) path.entry) }
-{
-    match path {
-        Some(path) => Ok(Some(String::from_str(alloc, path)?)),
-        None => Ok(None),
-    }
 }
 
 /// The journal of an order. One that prints of the file alone has none; every other needs a file.

@@ -5,7 +5,7 @@ ghost use Rattle.rec_command.specs.Refusals.{IsOrRefuses};
 ghost use Rattle.rec_command.specs.Words.{Orders};
 
 use super::Order;
-use super::found::{is_given, number};
+use super::found::{before_file, is_given};
 use super::numbers::edit_given;
 use super::refusal::Refusal;
 use super::style::style_of;
@@ -30,7 +30,7 @@ pub fn history_order(alloc: Global, options: &ArgMatches) -> Result<Order, Refus
 pub fn show_order(alloc: Global, options: &ArgMatches) -> Result<Order, Refusal>
     ensures { IsOrRefuses (Orders Show (rows_of (found_of options.now))) result }
 {
-    let edit = edit_given(number(options), NO_NUMBER)?;
+    let edit = edit_given(before_file(options), NO_NUMBER)?;
     let style = style_of(alloc, options)?;
     Ok(Order::Look(Look::Diff(edit, style)))
 }

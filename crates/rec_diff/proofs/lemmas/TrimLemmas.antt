@@ -105,7 +105,7 @@ are_first (line ∷ ls) others t is =
 pub later_lines : (t : List ℕ) (some others : List (List ℕ)) → lines t ≡ some ++ others → lines (text_of others) ≡ others
 later_lines t some others is = (are_first some others t is).later
 
-text_of-parts : (t : List ℕ) (some others : List (List ℕ)) → lines t ≡ some ++ others → t ≡ text_of some ++ text_of others
+pub text_of-parts : (t : List ℕ) (some others : List (List ℕ)) → lines t ≡ some ++ others → t ≡ text_of some ++ text_of others
 text_of-parts t some others is = sym (text_of-lines t) ∙ ap text_of is ∙ flat_map-append (λ line. line) some others
 
 -- where lines end after which bytes come

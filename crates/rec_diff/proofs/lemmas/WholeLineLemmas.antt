@@ -150,7 +150,7 @@ joined-joined (turns o n ∷ cs) = joined-put_turns o n (joined cs) ∙ ap (put_
 -- ---- turns are short
 
 -- after a turn something stays
-abbrev AreSpaced : List Stretch → Type 0
+abbrev pub AreSpaced : List Stretch → Type 0
 AreSpaced [] = Unit {0}
 AreSpaced (stays t ∷ cs) = (t ≢ []) × AreSpaced cs
 AreSpaced (turns o n ∷ cs) = NotTurns cs × AreSpaced cs
@@ -170,7 +170,7 @@ AreSpaced-put_turns (x ∷ xs) n [] spaced = (tt, tt)
 AreSpaced-put_turns (x ∷ xs) n (stays u ∷ cs) spaced = (tt, spaced)
 AreSpaced-put_turns (x ∷ xs) n (turns p q ∷ cs) spaced = spaced
 
-AreSpaced-joined : (cs : List Stretch) → AreSpaced (joined cs)
+pub AreSpaced-joined : (cs : List Stretch) → AreSpaced (joined cs)
 AreSpaced-joined [] = tt
 AreSpaced-joined (stays t ∷ cs) = AreSpaced-put_stays t (joined cs) (AreSpaced-joined cs)
 AreSpaced-joined (turns o n ∷ cs) = AreSpaced-put_turns o n (joined cs) (AreSpaced-joined cs)
@@ -336,7 +336,7 @@ module _ (b : Bool) (text : Stretch → List ℕ) (same : (c : Stretch) → side
     are_lines cs whole.1,
   )
 
-whole_lines_lead : (cut : List Stretch) → LeadsByLines (before_of cut) (after_of cut) (whole_lines cut)
+pub whole_lines_lead : (cut : List Stretch) → LeadsByLines (before_of cut) (after_of cut) (whole_lines cut)
 whole_lines_lead cut = record {
   from = same_text true old_of old_side cut;
   to = same_text false new_of new_side cut;

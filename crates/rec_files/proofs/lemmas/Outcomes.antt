@@ -15,7 +15,7 @@ use Rattle.rec_journal.specs.Stops.{keep_in, IsSafe}
 use Rattle.rec_journal.specs.Forgetting.{forgotten_journal}
 use Rattle.rec_journal.proofs.lemmas.plans.KeptLemmas.{kept-zero, length-kept, keep_within}
 use Rattle.rec_tools.specs.Home.{Contents, Write, writes_by}
-use Rattle.rec_tools.specs.Requests.{AskedChange, editing, moving, reverting, forgetting, Asked, looking, listing, showing, listing_changes, changing, previewing}
+use Rattle.rec_tools.specs.Requests.{AskedChange, editing, moving, reverting, forgetting, adopting, Asked, looking, listing, showing, listing_changes, changing, previewing}
 use Rattle.rec_tools.specs.Reverting.{IsRevertOf}
 use Rattle.rec_tools.specs.Outcomes.{Outcome, IsChangeOutcome, IsRequestOutcome, IsMade, IsPutBy, edit_reply, revert_reply}
 use Rattle.rec_tools.proofs.lemmas.runs.RunLemmas.{writes_nothing}
@@ -133,6 +133,15 @@ module _ (c : Contents) (regular : IsRegular c.journal) where
     file = None;
     are = ap (λ (x : Outcome). x.writes) f.is;
     begins = begins c.file (forgotten_journal (length o.past - (length o.past - n)) o) _ f.opens;
+    between = tt;
+  })
+  puts-change (adopting old) outcome (inl refused) = let e = refused.2 in cc
+  puts-change (adopting old) outcome (inr (o, opens, inl (settled, e))) = inl (ap (λ (x : Outcome). x.writes) e)
+  puts-change (adopting old) outcome (inr (o, opens, inr (drifted, (found, is, adopts)))) = inr (record {
+    journal = adopts.plan.journal;
+    file = None;
+    are = ap (λ (x : Outcome). x.writes) adopts.is;
+    begins = begins adopts.plan.file adopts.plan.journal _ adopts.planned.safe.next;
     between = tt;
   })
 

@@ -307,8 +307,8 @@ module _ {R D F S : Type 0} (place leads : List ℕ → List ℕ) (link : List �
     went_still : (calls : List Call) (o n : DiskHome R D F S) → at o ≡ Some p → Went Go o calls n → ReadsFirst calls → last_writes calls ≡ [] → told n ≡ told o
     went_still calls o n is went reads none = let one = went_one calls o n is went reads in one.is.still (one.writes ∙ none)
 
-    module _ (laws : StopsAreSteps) (request : Request) (answer : Answer) (calls : List Call) (printed : Printed) (o n : DiskHome R D F S) (done : Attempts Go o n (asked_of request) answer calls printed)
-        (e : at o ≡ Some p) where
+    module _ (laws : StopsAreSteps) (request : Request) (answer : Answer) (calls : List Call) (printed : Printed) (o n : DiskHome R D F S)
+        (done : Attempts Go o n (asked_of request) answer calls printed) (e : at o ≡ Some p) where
       does_some : Writes done.1.0 (asked_of request) answer printed calls
       does_some = does_writes done.1.0 (asked_of request) answer printed calls (done.2 done.1.0 done.1.1)
 

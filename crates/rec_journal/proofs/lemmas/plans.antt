@@ -5,3 +5,5 @@ pub mod PlanLemmas
 pub mod NumberLemmas
 pub mod ReplayLemmas
 pub mod ForgettingLemmas
+pub mod EndingLemmas
+pub mod AdoptionLemmas

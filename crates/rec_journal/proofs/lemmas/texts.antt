@@ -4,4 +4,6 @@ pub mod WayLemmas
 pub mod StandingLemmas
 pub mod AllLemmas
 pub mod WalkLemmas
+pub mod ReachLemmas
+pub mod ReachExamples
 pub mod TextExamples

@@ -3,6 +3,8 @@ pub mod EditLemmas
 pub mod OpeningLemmas
 pub mod RevertLemmas
 pub mod LeftLemmas
+pub mod AdoptLemmas
+pub mod FromLemmas
 pub mod OutcomeLemmas
 pub mod DecideLemmas
 pub mod StoreLemmas

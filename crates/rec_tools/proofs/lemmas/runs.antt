@@ -10,3 +10,5 @@ pub mod LeadingLemmas
 pub mod ReachedLemmas
 pub mod BackLemmas
 pub mod DryLemmas
+pub mod AdoptedLemmas
+pub mod AnyTextLemmas

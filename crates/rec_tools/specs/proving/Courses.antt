@@ -8,27 +8,25 @@ use Rattle.rec_diff.specs.declared.style.DiffStyle.{DiffStyle}
 use Rattle.rec_diff.specs.Diffs.{IsDiff}
 use Rattle.rec_tools.specs.declared.decision.NewFile.{NewFile}
 use Rattle.rec_tools.specs.declared.decision.Decision.{Decision}
-use Rattle.rec_tools.specs.declared.decision.Decision.TheVariants.{Stay, Put}
+use Rattle.rec_tools.specs.declared.decision.Decision.TheVariants.{Stay, Put, Adopt}
 use Rattle.rec_tools.specs.Home.{Contents}
 use Rattle.rec_tools.specs.Printouts.{Printout}
 use Rattle.rec_tools.specs.Requests.{AskedChange, previewing}
-use Rattle.rec_tools.specs.Outcomes.{LeadsAcross, IsChangeOutcome, IsRequestOutcome, printing, reply_in}
+use Rattle.rec_journal.specs.declared.patch.Direction.TheVariants.{Forward}
+use Rattle.rec_tools.specs.Outcomes.{LeadsAcross, LeadsFrom, IsChangeOutcome, IsRequestOutcome, printing, reply_in}
 use Rattle.rec_tools.specs.Attempts.{Answer}
 
 abbrev pub contents : List ℕ → List ℕ → Contents
 contents file journal = record { file = file; journal = journal }
 
--- a new file comes of an edit that is made or taken back, by its steps
+-- a new file comes of an edit that is made or taken back, by its steps; and so does the file of an adoption
 abbrev pub HasCourse : List ℕ → List ℕ → Decision → Type 0
 HasCourse file journal (Stay reply) = Unit {0}
 HasCourse file journal (Put put None reply) = Unit {0}
 HasCourse file journal (Put put (Some new) reply) = (e : Revision)
     × LeadsAcross new.direction e (contents file journal) (contents new.text put) × (new.steps ≡ e.steps)
-
--- the new file of a decision, if there is one
-abbrev pub new_file_in : Decision → Option NewFile
-new_file_in (Stay reply) = None
-new_file_in (Put journal new reply) = new
+HasCourse file journal (Adopt put from steps reply) =
+    (e : Revision) × LeadsFrom from e (contents file put) × (steps ≡ e.steps)
 
 -- its steps lead from the file, or back to it
 abbrev pub LeadsFromFile : List ℕ → Option NewFile → Type 0
@@ -42,7 +40,15 @@ IsTextOf style file (Some new) answer = IsDiff new.direction style new.steps fil
 
 -- what is printed of a decision on a file
 abbrev pub IsDecisionText : DiffStyle → List ℕ → Decision → Result (List ℕ) Fault → Type 0
-IsDecisionText style file decision = IsTextOf style file (new_file_in decision)
+IsDecisionText style file (Stay reply) answer = IsTextOf style file None answer
+IsDecisionText style file (Put put new reply) answer = IsTextOf style file new answer
+IsDecisionText style file (Adopt put from steps reply) answer = IsDiff Forward style steps from file answer
+
+-- the steps of a decision lead where it says
+abbrev pub LeadsSo : List ℕ → Decision → Type 0
+LeadsSo file (Stay reply) = Unit {0}
+LeadsSo file (Put put new reply) = LeadsFromFile file new
+LeadsSo file (Adopt put from steps reply) = LeadsBy steps from file
 
 -- what is printed for a preview, with its reply, or why there is none
 abbrev pub IsPreviewed : DiffStyle → List ℕ → List ℕ → AskedChange → Result Printout Fault → Type 0

@@ -1,5 +1,5 @@
 -- Lemmas on the text of a batch.
-use Rattle.std.proofs.Common.{◌≡◌, ◌≢◌, ℕ, Bool, true, false, List, [], ◌∷◌, ◌++◌, Option, Some, None, map, take, codes, length, drop, get_or, zero, suc, ◌+◌, ◌<◌, inl, inr, arith, add-one}
+use Rattle.std.proofs.Common.{◌≡◌, ℕ, Bool, true, false, List, [], ◌∷◌, ◌++◌, Option, Some, None, map, take, codes, length, drop, get_or, zero, suc, ◌+◌, ◌<◌, inl, inr, arith, add-one}
 use Rattle.std.proofs.Common.{if◌then◌else◌, ◌∙◌, refl, sym, ap, subst}
 use Rattle.std.specs.Prelude.{Result, Ok, Err, IfOk, IfErr, option_to_list}
 use Rattle.std.specs.List.{AllByRecursion, AllZip}
@@ -17,7 +17,7 @@ use Rattle.std.proofs.lemmas.List.{map-append}
 use Rattle.std.proofs.lemmas.Slice.Zip.{all_zipped_more}
 use Rattle.rec_text.specs.Records.{AreRecords, elements_in, is_field_piece}
 use Rattle.rec_journal.specs.declared.event.Tool.{Tool}
-use Rattle.rec_journal.specs.declared.event.Tool.TheVariants.{RecIns, RecDel, RecSet, Batch}
+use Rattle.rec_journal.specs.declared.event.Tool.TheVariants.{RecIns, RecDel, RecSet}
 use Rattle.rec_journal.specs.Event.{tool_name}
 use Rattle.rec_edit.specs.declared.request.Action.{Action}
 use Rattle.rec_edit.specs.declared.request.NewRecord.{NewRecord}
@@ -32,7 +32,7 @@ use Rattle.rec_tools.specs.declared.request.Pick.{Pick}
 use Rattle.rec_tools.specs.declared.request.EditRequest.{EditRequest}
 use Rattle.rec_tools.specs.declared.request.EditRequest.TheVariants.{Insert, Replace, Delete, CommentOut, Set}
 use Rattle.rec_tools.specs.proving.Finding.{FindsPart, AreEditsIn, unread_by}
-use Rattle.rec_tools.specs.Batches.{is_known, AsksFor, AsksTool, IsBy, IsEdit, HasOnly, HasWord, IsPickOf, IsFreshOf, IsAutoOf, IsActionOf, HasNoEditAt, IsUnreadAt, AreEditsOf, AreEdits}
+use Rattle.rec_tools.specs.Batches.{EditsRecords, is_known, AsksFor, AsksTool, IsBy, IsEdit, HasOnly, HasWord, IsPickOf, IsFreshOf, IsAutoOf, IsActionOf, HasNoEditAt, IsUnreadAt, AreEditsOf, AreEdits}
 
 -- ---- one value of a name
 
@@ -117,7 +117,7 @@ pub record_part : (own : List Piece) (fresh : NewRecord) → IsFreshOf own fresh
     → (value : Option (List ℕ)) × HasOnly (codes "Record") own value
 record_part own fresh is = ((new_record_for fresh).2, is.text)
 
-pub tool_part : (own : List Piece) (tool : Tool) → IsBy tool own × (tool ≢ Batch)
+pub tool_part : (own : List Piece) (tool : Tool) → IsBy tool own × EditsRecords tool
     → (value : Option (List ℕ)) × HasOnly (codes "Tool") own value
 tool_part own tool by = (Some (tool_name tool), sym by.0.named)
 

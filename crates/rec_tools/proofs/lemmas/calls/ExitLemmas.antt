@@ -9,7 +9,7 @@ use Rattle.rec_text.specs.Faults.{IsMemoryOr}
 use Rattle.rec_text.specs.Sink.{HasRisen}
 use Rattle.rec_select.specs.Taken.{PrintsAndCounts}
 use Rattle.rec_tools.specs.declared.decision.Decision.{Decision}
-use Rattle.rec_tools.specs.declared.decision.Decision.TheVariants.{Stay, Put}
+use Rattle.rec_tools.specs.declared.decision.Decision.TheVariants.{Stay, Put, Adopt}
 use Rattle.rec_tools.specs.declared.home.Which.TheVariants.{Base as TheFile, Journal as TheJournal}
 use Rattle.rec_tools.specs.Home.{Contents, Write, Call, got, TellAll, Went}
 use Rattle.rec_tools.specs.Printouts.{Printout, Printed, PutsPrintout, WentOut, IsSilence, IsShownText, IsHistory, printed_history}
@@ -197,6 +197,7 @@ does-carried asked c o answer later p both found answered printed kept = inr (in
 outcome_of-silent : (decision : Decision) → (outcome_of decision).text ≡ []
 outcome_of-silent (Stay reply) = refl
 outcome_of-silent (Put journal file reply) = refl
+outcome_of-silent (Adopt journal from steps reply) = refl
 
 -- what holds of the contents that were read holds of those of which the reads tell
 of_told : (file journal : List ℕ) (later : List Call) (P : Contents → List Call → Type 0)

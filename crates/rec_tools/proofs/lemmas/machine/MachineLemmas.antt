@@ -12,7 +12,7 @@ use Rattle.rec_diff.specs.Diffs.{IsDiff}
 use Rattle.rec_diff.proofs.lemmas.DiffLemmas.{one_diff}
 use Rattle.rec_tools.specs.declared.request.Reply.{Reply}
 use Rattle.rec_tools.specs.Printouts.{Printout, ComesOut, Told}
-use Rattle.rec_tools.specs.Requests.{AskedChange, editing, moving, reverting, forgetting, Asked, looking, listing, showing, listing_changes, changing, previewing, asked_of}
+use Rattle.rec_tools.specs.Requests.{AskedChange, editing, moving, reverting, forgetting, adopting, Asked, looking, listing, showing, listing_changes, changing, previewing, asked_of}
 use Rattle.rec_tools.specs.Reverting.{Standing}
 use Rattle.rec_tools.specs.Outcomes.{IsMade, edit_reply, revert_reply}
 use Rattle.rec_tools.specs.Attempts.{Answer}
@@ -123,6 +123,7 @@ module _ (s : State) (one other : Answer) (built : one ≢ Err BadPattern) (buil
   one_change_step (moving direction through) t u means is is_too = one_move_step direction through s (entries_on direction s) one other t u is is_too
   one_change_step (forgetting n dropping) t u means is is_too =
       one_letting_go (length s.past - n) (if dropping then lost_entries s else 0) s one other t u is is_too
+  one_change_step (adopting old) t u means is is_too = (is.0 ∙ sym is_too.0, is.1 ∙ sym is_too.1)
 
   -- what is asked for has one step
   one_step_of : (asked : Asked) (text printed : List ℕ) (t u : State) → MeansOne asked → IsMachineStep s asked one text t → IsMachineStep s asked other printed u

@@ -1,5 +1,5 @@
 -- What edits made, and what would change: what is printed on contents that stand for a state is what the machine prints.
-use Rattle.std.proofs.Common.{◌≡◌, ◌≢◌, inl, inr, ℕ, List, [], ◌∷◌, map, Option, Some, Result, Ok, Err, sym, ap, ap₂, subst, refl, ◌∙◌}
+use Rattle.std.proofs.Common.{◌≡◌, ◌≢◌, inl, inr, ℕ, List, [], ◌∷◌, map, Option, Some, None, Result, Ok, Err, sym, ap, ap₂, subst, refl, ◌∙◌}
 use Rattle.std.proofs.lemmas.Bool.{false≢true}
 use Rattle.rec_text.specs.declared.fault.Fault.{Fault}
 use Rattle.rec_journal.specs.declared.event.EditStep.{EditStep}
@@ -16,7 +16,7 @@ use Rattle.rec_diff.proofs.lemmas.DiffLemmas.{no_refused_diff}
 use Rattle.rec_tools.specs.Home.{Contents, written}
 use Rattle.rec_tools.specs.Printouts.{Printout, told_of, IsShownText, IsShownEdit, IsWholeLog, IsLog}
 use Rattle.rec_tools.specs.Requests.{AskedChange, showing, listing_changes, changing, previewing}
-use Rattle.rec_tools.specs.Outcomes.{Outcome, IsChangeOutcome, IsRequestOutcome, IsPrinting, IsPreviewText, OnTop, printing}
+use Rattle.rec_tools.specs.Outcomes.{Outcome, IsChangeOutcome, IsRequestOutcome, IsPrinting, IsPreviewText, IsPreviewFrom, OnTop, printing}
 use Rattle.rec_tools.specs.Machine.{Entry, State, AreEntries, Stands, IsChangeStep, IsMachineStep, IsShowingStep, IsStepDiff, told_in}
 use Rattle.rec_tools.specs.Guarantee.{StepsAsMachine}
 use Rattle.rec_text.proofs.lemmas.FaultLemmas.{no_both, same_fault}
@@ -115,6 +115,7 @@ module _ (c d : Contents) (s t : State) (stands : Stands c s) (reached : Stands 
           (Backward, has.entry, has.are, in_states Backward e.steps has.entry.steps has.steps diff)
 
 module _ (c : Contents) (s : State) (stands : Stands c s) (style : DiffStyle) (change : AskedChange)
+    (from_here : (outcome : Outcome) → IsChangeOutcome c change (Ok outcome) → outcome.from ≡ None)
     (steps : (r : Result Outcome Fault) → IsChangeOutcome c change r → StepsAsMachine c s (changing change) r) where
   pub previews_step : (r : Result Outcome Fault) → IsRequestOutcome c (previewing style change) r → StepsAsMachine c s (previewing style change) r
   previews_step (Ok outcome) (would, is, preview) =
@@ -123,7 +124,8 @@ module _ (c : Contents) (s : State) (stands : Stands c s) (style : DiffStyle) (c
         (
           next.0,
           subst (λ reply. IsChangeStep s change (Ok reply) next.0) (sym preview.reply) next.1.0,
-          step_diff c (written c would.writes) s next.0 stands next.2 style outcome.text preview.text,
+          step_diff c (written c would.writes) s next.0 stands next.2 style outcome.text
+              (subst (λ f. IsPreviewFrom f style c (written c would.writes) outcome.text) (from_here would is) preview.text),
           refl,
         ),
         subst (λ ws. Stands (written c ws) s) (sym preview.writes) stands,

@@ -1,5 +1,5 @@
 -- What a request comes to on contents that stand for a state is what the machine does in that state.
-use Rattle.std.proofs.Common.{arith, ◌≡◌, ◌≢◌, ◌⊎◌, inl, inr, ℕ, ◌+◌, ◌-◌, ◌<◌, Bool, List, [], ◌∷◌, length, map, Option, Result, Ok, Err, sym, ap, ap₂, subst, refl, ◌∙◌}
+use Rattle.std.proofs.Common.{arith, ◌≡◌, ◌≢◌, ◌⊎◌, inl, inr, ℕ, ◌+◌, ◌-◌, ◌<◌, Bool, List, [], ◌∷◌, length, map, Option, None, Result, Ok, Err, sym, ap, ap₂, subst, refl, ◌∙◌}
 use Rattle.std.proofs.lemmas.Bool.{false≢true}
 use Rattle.std.specs.Prelude.{true, false, codes, if◌then◌else◌}
 use Rattle.rec_text.specs.declared.fault.Fault.{Fault}
@@ -22,10 +22,10 @@ use Rattle.rec_tools.specs.declared.request.Reply.TheVariants.{Shown, Edited as 
 use Rattle.rec_tools.specs.Home.{Contents}
 use Rattle.rec_tools.specs.Steps.{Then}
 use Rattle.rec_tools.specs.Printouts.{Printout, history_text, printed_history}
-use Rattle.rec_tools.specs.Requests.{Edits, AskedChange, editing, moving, reverting, forgetting, Asked, looking, listing, showing, listing_changes, changing, previewing, asked_of}
+use Rattle.rec_tools.specs.Requests.{Edits, AskedChange, editing, moving, reverting, forgetting, adopting, Asked, looking, listing, showing, listing_changes, changing, previewing, asked_of}
 use Rattle.rec_tools.specs.Reverting.{IsRevertOf}
-use Rattle.rec_tools.specs.Outcomes.{Outcome, IsChangeOutcome, IsRequestOutcome, IsPrinting, IsMade, IsEditOutcome, IsPutBy, IsPlanned, IsMove, IsMoveOutcome, IsLetGo, IsForgetting, Forgets}
-use Rattle.rec_tools.specs.Outcomes.{edit_reply, revert_reply, printing, staying, putting, reply_of}
+use Rattle.rec_tools.specs.Outcomes.{Outcome, IsChangeOutcome, IsRequestOutcome, IsPrinting, IsMade, IsEditOutcome, IsPutBy, IsPlanned}
+use Rattle.rec_tools.specs.Outcomes.{IsMove, IsMoveOutcome, IsLetGo, IsForgetting, Forgets, IsAdoption, edit_reply, revert_reply, printing, staying, putting, reply_of}
 use Rattle.rec_tools.specs.Machine.{Entry, State, AreEntries, Stands, IsChangeStep, IsMadeStep, IsRevertIn, IsMoveStep, Clashes, standing_at, entries_on, numbers_in}
 use Rattle.rec_tools.specs.Machine.{state_history, state_after_edit, state_after_move, state_after_forgetting, lost_entries}
 use Rattle.rec_tools.specs.Guarantee.{StepsAsMachine, OutcomesAreSteps}
@@ -33,6 +33,7 @@ use Rattle.rec_text.proofs.lemmas.FaultLemmas.{ok_is_no_err}
 use Rattle.rec_tools.proofs.lemmas.machine.StandsLemmas.{StandsBy, stands_by, can_be_opened}
 use Rattle.rec_tools.specs.Attempts.{Answer}
 use Rattle.rec_tools.proofs.lemmas.machine.StandingLemmas.{reverts_alike}
+use Rattle.rec_tools.proofs.lemmas.outcomes.FromLemmas.{from_file}
 use Rattle.rec_tools.proofs.lemmas.machine.ShowingLemmas.{shows_step, logs_step, previews_step}
 use Rattle.rec_tools.proofs.lemmas.outcomes.OpeningLemmas.{edit_leads_back, leads_on, leads_back, none_missing}
 use Rattle.rec_tools.proofs.lemmas.machine.ForgettingLemmas.{as_many_edits, stands_after_forgetting}
@@ -368,6 +369,23 @@ module _ (c : Contents) (s : State) (stands : Stands c s) where
   forgets_step n dropping r (inl (fault, refused, e)) = absurd (no_refusal fault refused)
   forgets_step n dropping r (inr (o, opens, forgets)) = forgetting_steps n dropping o opens r forgets
 
+  -- ---- an adoption
+
+  adopts_step : (old : Option (List ℕ)) (r : Result Outcome Fault) → Then (IsOpening c.file c.journal) (λ o. IsAdoption old o c) r → StepsAsMachine c s (changing (adopting old)) r
+  adopts_step old r (inl (fault, refused, e)) = absurd (no_refusal fault refused)
+  adopts_step old (Ok outcome) (inr (o, opens, inl (settled, e))) =
+      subst (λ x. StepsAsMachine c s (changing (adopting old)) (Ok x)) (sym e) (s, ((refl, refl), refl), stands)
+  adopts_step old (Ok outcome) (inr (o, opens, inr (drifted, adopts))) = absurd (false≢true (sym (by_opening o opens).settled ∙ drifted))
+  adopts_step old (Err fault) (inr (o, opens, (drifted, none))) = absurd (false≢true (sym (by_opening o opens).settled ∙ drifted))
+
+  -- what comes of a change leads from the file
+  from_here : (change : AskedChange) (outcome : Outcome) → IsChangeOutcome c change (Ok outcome) → outcome.from ≡ None
+  from_here change outcome is =
+      elim (from_file c change outcome is) [
+        | inl none ↦ none
+        | inr adopted ↦ absurd (false≢true (sym (by_opening adopted.opened adopted.opens).settled ∙ adopted.drifted))
+      ]
+
 -- whatever a change comes to on contents that stand for a state, the machine steps so
 pub changes_are_steps : (c : Contents) (s : State) (change : AskedChange) (r : Result Outcome Fault)
     → Stands c s → IsChangeOutcome c change r → StepsAsMachine c s (changing change) r
@@ -375,6 +393,7 @@ changes_are_steps c s (editing IsEdit) r stands is = edits_step c s stands IsEdi
 changes_are_steps c s (moving direction through) r stands is = moves_step c s stands direction through r is
 changes_are_steps c s (reverting number force) r stands is = reverts_step c s stands number force r is
 changes_are_steps c s (forgetting n dropping) r stands is = forgets_step c s stands n dropping r is
+changes_are_steps c s (adopting old) r stands is = adopts_step c s stands old r is
 
 -- and so it does for all that is asked for
 pub outcomes_are_steps : (c : Contents) (s : State) (asked : Asked) (r : Result Outcome Fault)
@@ -384,7 +403,7 @@ outcomes_are_steps c s listing r stands is = lists_step c s stands r is
 outcomes_are_steps c s (showing number style) r stands is = shows_step c s stands number style r is
 outcomes_are_steps c s (listing_changes style) r stands is = logs_step c s stands style r is
 outcomes_are_steps c s (changing change) r stands is = changes_are_steps c s change r stands is
-outcomes_are_steps c s (previewing style change) r stands is = previews_step c s stands style change (λ r is. changes_are_steps c s change r stands is) r is
+outcomes_are_steps c s (previewing style change) r stands is = previews_step c s stands style change (from_here c s stands change) (λ r is. changes_are_steps c s change r stands is) r is
 
 pub of_requests : OutcomesAreSteps
 of_requests c s request r stands is = outcomes_are_steps c s (asked_of request) r stands is

@@ -2,7 +2,6 @@
 use Rattle.std.proofs.Common.{◌≡◌, ◌≢◌, inl, inr, ℕ, Bool, true, false, Option, Some, None, List, [], ◌∷◌, Result, Ok, Err, ap, refl, sym, subst, ◌∙◌}
 use Rattle.std.specs.List.{AllZip}
 use Rattle.std.specs.Prelude.{◌+◌, ◌++◌}
-use Rattle.std.specs.declared.ops.Range.{Range}
 use Rattle.rec_text.specs.declared.fault.Fault.{Fault}
 use Rattle.rec_text.specs.declared.fault.Fault.TheVariants.{BadPattern, StoreFailed}
 use Rattle.rec_text.specs.Faults.{IsMemoryOr, UnlessMemory}
@@ -14,7 +13,7 @@ use Rattle.rec_check.specs.DescribedTexts.{DescribedText, IsDescribedText}
 use Rattle.rec_journal.specs.declared.event.Tool.{Tool}
 use Rattle.rec_journal.specs.declared.event.Tool.TheVariants.{Batch as ByBatch}
 use Rattle.rec_check.specs.Violations.{AreViolationsOf}
-use Rattle.rec_select.specs.Selection.{Filter, IsSelection}
+use Rattle.rec_select.specs.Selection.{Filter}
 use Rattle.rec_edit.specs.declared.request.Action.{Action}
 use Rattle.rec_edit.specs.declared.answer.Edited.{Edited}
 use Rattle.rec_edit.specs.declared.outcome.Patched.{Patched}
@@ -48,14 +47,14 @@ abbrev by_filter : Option (List ℕ) → Filter → Wanted
 by_filter record_type filter = record { record_type = record_type; filter = filter }
 
 -- these records, where they may be taken out
-abbrev MayGo : Filter → Bool → List (Range ℕ) → Result (List (Range ℕ)) Fault → Type 0
+abbrev MayGo : Filter → Bool → List ℕ → Result (List ℕ) Fault → Type 0
 MayGo filter force chosen = Then (λ answer. answer ≡ allowed filter force) (λ _ answer. answer ≡ Ok chosen)
 
 module _ (record_type : Option (List ℕ)) (wanted other : Filter) (alike : AreAlike wanted other) (pieces : List Piece) (sets : List Set_) where
-  chosen_alike : (r : Result (List (Range ℕ)) Fault) → AreChosen pieces sets (by_filter record_type wanted) r → AreChosen pieces sets (by_filter record_type other) r
-  chosen_alike = Then-first (IsSelection pieces sets record_type wanted) (IsSelection pieces sets record_type other) _ (same_selection pieces sets record_type wanted other alike.into alike.back)
+  chosen_alike : (r : Result (List ℕ) Fault) → AreChosen pieces sets (by_filter record_type wanted) r → AreChosen pieces sets (by_filter record_type other) r
+  chosen_alike = same_selection pieces sets record_type wanted other alike.into alike.back
 
-  removable_alike : (force : Bool) (r : Result (List (Range ℕ)) Fault) → AreRemovable pieces sets (by_filter record_type wanted) force r
+  removable_alike : (force : Bool) (r : Result (List ℕ) Fault) → AreRemovable pieces sets (by_filter record_type wanted) force r
       → AreRemovable pieces sets (by_filter record_type other) force r
   removable_alike force r h =
       Then-next (AreChosen pieces sets (by_filter record_type other)) (MayGo wanted force) (MayGo other force)

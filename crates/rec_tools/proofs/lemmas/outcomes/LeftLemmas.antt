@@ -9,7 +9,7 @@ use Rattle.rec_text.proofs.lemmas.FaultLemmas.{memory_or_weaker}
 use Rattle.rec_journal.specs.declared.patch.Hunk.{Hunk}
 use Rattle.rec_journal.specs.declared.event.EditStep.{EditStep}
 use Rattle.rec_journal.specs.declared.event.Tool.{Tool}
-use Rattle.rec_journal.specs.declared.event.Tool.TheVariants.{RecIns, RecDel, RecSet, RecFix, Batch}
+use Rattle.rec_journal.specs.declared.event.Tool.TheVariants.{RecIns, RecDel, RecSet, RecFix, Batch, Adopt, Write}
 use Rattle.rec_journal.specs.EditTexts.{WithLater, IsStandingEdit}
 use Rattle.rec_journal.specs.Event.{AreStepsBy}
 use Rattle.rec_journal.specs.History.{Opened}
@@ -85,6 +85,12 @@ step_by RecSet steps hunks is =
 step_by RecFix steps hunks is =
     let same = ap (last_tool RecFix) is in
     record { by = subst (λ t. AreStepsBy RecFix (single_step t hunks)) (sym same) (single RecFix hunks); no_batch = ap is_batch same }
+step_by Adopt steps hunks is =
+    let same = ap (last_tool Adopt) is in
+    record { by = subst (λ t. AreStepsBy Adopt (single_step t hunks)) (sym same) (single Adopt hunks); no_batch = ap is_batch same }
+step_by Write steps hunks is =
+    let same = ap (last_tool Write) is in
+    record { by = subst (λ t. AreStepsBy Write (single_step t hunks)) (sym same) (single Write hunks); no_batch = ap is_batch same }
 
 -- hunks that lead to another text are there
 some_hunks : (hunks : List Hunk) (here left : List ℕ) → Splices hunks here left → left ≢ here → hunks ≢ []

@@ -1,5 +1,5 @@
 -- A request comes to one outcome on two contents at most.
-use Rattle.std.proofs.Common.{arith, ◌≡◌, inl, inr, ℕ, Bool, true, false, Option, List, ◌∷◌, length, map, Result, Ok, Err, sym, ap, ap₂, subst, ◌∙◌}
+use Rattle.std.proofs.Common.{arith, ◌≡◌, inl, inr, ℕ, Bool, true, false, Option, Some, None, List, ◌∷◌, length, map, Result, Ok, Err, sym, ap, ap₂, subst, ◌∙◌}
 use Rattle.std.proofs.lemmas.Bool.{false≢true}
 use Rattle.rec_text.specs.declared.fault.Fault.{Fault}
 use Rattle.rec_text.specs.declared.fault.Fault.TheVariants.{BadPattern}
@@ -44,7 +44,7 @@ use Rattle.rec_tools.specs.declared.request.Pick.{Pick}
 use Rattle.rec_tools.specs.declared.request.Look.{Look}
 use Rattle.rec_tools.specs.declared.request.Look.TheVariants.{Show, Info, Check, History, Diff, Log}
 use Rattle.rec_tools.specs.declared.request.Change.{Change}
-use Rattle.rec_tools.specs.declared.request.Change.TheVariants.{Edit, Batch, Undo, Redo, Revert, Forget}
+use Rattle.rec_tools.specs.declared.request.Change.TheVariants.{Edit, Batch, Undo, Redo, Revert, Forget, Adopt}
 use Rattle.rec_tools.specs.declared.request.Request.{Request}
 use Rattle.rec_tools.specs.declared.request.Request.TheVariants.{Look as Looks, Change as Changes, Preview as Previews}
 use Rattle.rec_tools.specs.declared.request.Reply.{Reply}
@@ -53,11 +53,11 @@ use Rattle.rec_tools.specs.Home.{Contents, Write, written}
 use Rattle.rec_tools.specs.Steps.{Then}
 use Rattle.rec_tools.specs.Asking.{IsFilter, IsListed, IsShape}
 use Rattle.rec_tools.specs.Printouts.{Printout, printed_history, told_of, IsLog, IsShownEdit, IsLogOf, IsWholeLog, IsShow, IsInfoOf, IsShownText, IsReportText, verdict}
-use Rattle.rec_tools.specs.Requests.{Edits, AskedChange, editing, moving, reverting, forgetting, Asked, looking, listing, showing, listing_changes, changing, previewing}
+use Rattle.rec_tools.specs.Requests.{Edits, AskedChange, editing, moving, reverting, forgetting, adopting, Asked, looking, listing, showing, listing_changes, changing, previewing}
 use Rattle.rec_tools.specs.Requests.{look_of, change_of, asked_of}
 use Rattle.rec_tools.specs.Reverting.{IsRevertOf}
-use Rattle.rec_tools.specs.Outcomes.{Outcome, IsChangeOutcome, IsRequestOutcome, IsPrinting, IsMade, IsEditOutcome, IsPutBy, IsMove, IsForgetting, OnTop, LeadsAcross, IsPreviewText, OneOutcome}
-use Rattle.rec_tools.specs.Outcomes.{edit_reply, revert_reply, printing, putting, reply_of}
+use Rattle.rec_tools.specs.Outcomes.{Outcome, IsChangeOutcome, IsRequestOutcome, IsPrinting, IsMade, IsEditOutcome, IsPutBy, IsMove}
+use Rattle.rec_tools.specs.Outcomes.{IsForgetting, IsAdoption, OnTop, LeadsAcross, IsPreviewText, IsPreviewFrom, OneOutcome, edit_reply, revert_reply, printing, putting, reply_of}
 use Rattle.rec_text.proofs.lemmas.FaultLemmas.{same_fault, same_value}
 use Rattle.rec_tools.proofs.lemmas.outcomes.OpeningLemmas.{no_clash, same_plan_of}
 use Rattle.rec_tools.proofs.lemmas.outcomes.EditLemmas.{AreEditsAlike, agree_on_one, agree_on_batch, one_made}
@@ -66,6 +66,7 @@ use Rattle.rec_text.proofs.lemmas.StepLemmas.{HasOne, HasOneBut, HasOneBut-of, H
 use Rattle.rec_tools.proofs.lemmas.printing.LogLemmas.{one_log}
 use Rattle.rec_tools.proofs.lemmas.outcomes.AnswerLemmas.{HasOneBut-filter, HasOneBut-text, HasOneBut-once_read, agree_by_sets, same_selection}
 use Rattle.rec_tools.proofs.lemmas.outcomes.RevertLemmas.{one_revert_of}
+use Rattle.rec_tools.proofs.lemmas.outcomes.AdoptLemmas.{HasOne-adoption}
 
 -- ---- printed texts
 
@@ -182,6 +183,7 @@ one_change (Undo through) = tt
 one_change (Redo through) = tt
 one_change (Revert number force) = tt
 one_change (Forget n dropped) = tt
+one_change (Adopt old) = tt
 
 pub one_meaning : (request : Request) → MeansOne (asked_of request)
 one_meaning (Looks look) = one_look look
@@ -314,10 +316,17 @@ module _ (style : DiffStyle) (c d : Contents) where
   one_preview_text one other (inr (Forward, e, across, diff)) (inr (Backward, f, across_too, diff_too)) = absurd (not_back_and_forth e f across across_too)
   one_preview_text one other (inr (Backward, e, across, diff)) (inr (Forward, f, across_too, diff_too)) = absurd (not_back_and_forth f e across_too across)
 
-same_outcome : (one other : Outcome) → one.text ≡ other.text → one.writes ≡ other.writes → one.reply ≡ other.reply → one ≡ other
-same_outcome one other text writes reply =
-    let made : List ℕ → List Write → Reply → Outcome = λ t ws r. record { text = t; writes = ws; reply = r } in
-    ap₂ (λ t ws. made t ws one.reply) text writes ∙ ap (made other.text other.writes) reply
+  one_preview_from : (from : Option (List ℕ)) (one other : List ℕ) → IsPreviewFrom from style c d one → IsPreviewFrom from style c d other → one ≡ other
+  one_preview_from None one other is is_too = one_preview_text one other is is_too
+  one_preview_from (Some from) one other (e, leads, diff) (f, leads_too, diff_too) =
+      let there = same_value leads.there leads_too.there (one_opening d.file d.journal (Ok leads.there) (Ok leads_too.there) leads.opens_there leads_too.opens_there) in
+      let same = same_first e f leads.others leads_too.others (sym leads.newest ∙ ap (λ (o : Opened). o.past) there ∙ leads_too.newest) in
+      one_diff Forward style f.steps from d.file one other (subst (λ (x : Revision). IsDiff Forward style x.steps from d.file (Ok one)) same diff) diff_too
+
+same_outcome : (one other : Outcome) → one.text ≡ other.text → one.writes ≡ other.writes → one.reply ≡ other.reply → one.from ≡ other.from → one ≡ other
+same_outcome one other text writes reply from =
+    let made : List ℕ → List Write → Reply → Option (List ℕ) → Outcome = λ t ws r f. record { text = t; writes = ws; reply = r; from = f } in
+    ap₂ (λ t ws. made t ws one.reply one.from) text writes ∙ ap₂ (made other.text other.writes) reply from
 
 -- ---- outcomes
 
@@ -345,6 +354,8 @@ module _ (c : Contents) where
   one_change_outcome (forgetting n dropping) means one other is is_too built built_too =
       HasOne-Then (IsOpening c.file c.journal) (λ o. IsForgetting n dropping o c) (one_opening c.file c.journal) (λ o _. HasOne-forgetting n dropping o c)
       one other is is_too
+  one_change_outcome (adopting old) means one other is is_too built built_too =
+      HasOne-Then (IsOpening c.file c.journal) (λ o. IsAdoption old o c) (one_opening c.file c.journal) (λ o _. HasOne-adoption old o c) one other is is_too
 
   -- what is asked for comes to one outcome
   pub one_outcome_of : (asked : Asked) → MeansOne asked → HasOneBut (IsRequestOutcome c asked)
@@ -361,8 +372,8 @@ module _ (c : Contents) where
   one_outcome_of (previewing style change) means (Ok one) (Ok other) (would, is, preview) (also, is_too, preview_too) built built_too =
       let same = same_value would also (one_change_outcome change means (Ok would) (Ok also) is is_too (no_both would BadPattern) (no_both also BadPattern)) in
       ap Ok (same_outcome one other
-      (one_preview_text style c (written c also.writes) one.text other.text (subst (λ (w : Outcome). IsPreviewText style c (written c w.writes) one.text) same preview.text) preview_too.text)
-      (preview.writes ∙ sym preview_too.writes) (preview.reply ∙ ap (λ (w : Outcome). w.reply) same ∙ sym preview_too.reply))
+      (one_preview_from style c (written c also.writes) also.from one.text other.text (subst (λ (w : Outcome). IsPreviewFrom w.from style c (written c w.writes) one.text) same preview.text)
+      preview_too.text) (preview.writes ∙ sym preview_too.writes) (preview.reply ∙ ap (λ (w : Outcome). w.reply) same ∙ sym preview_too.reply) (preview.from ∙ sym preview_too.from))
   one_outcome_of (previewing style change) means (Ok one) (Err fault) (would, is, preview) is_too built built_too =
       absurd (no_both would fault (one_change_outcome change means (Ok would) (Err fault) is is_too (no_both would BadPattern) built_too))
   one_outcome_of (previewing style change) means (Err fault) (Ok other) is (would, is_too, preview) built built_too =

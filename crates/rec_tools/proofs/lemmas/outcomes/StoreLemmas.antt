@@ -13,7 +13,7 @@ use Rattle.rec_tools.specs.declared.request.Reply.TheVariants.{Shown}
 use Rattle.rec_tools.specs.declared.request.Look.{Look}
 use Rattle.rec_tools.specs.declared.request.Look.TheVariants.{Show, Info, Check, History, Diff, Log}
 use Rattle.rec_tools.specs.declared.request.Change.{Change}
-use Rattle.rec_tools.specs.declared.request.Change.TheVariants.{Edit, Batch, Undo, Redo, Revert, Forget}
+use Rattle.rec_tools.specs.declared.request.Change.TheVariants.{Edit, Batch, Undo, Redo, Revert, Forget, Adopt}
 use Rattle.rec_tools.specs.declared.request.Request.{Request}
 use Rattle.rec_tools.specs.declared.request.Request.TheVariants.{Look as Looks, Change as Changes, Preview as Previews}
 use Rattle.rec_tools.specs.Home.{Contents}
@@ -24,9 +24,9 @@ use Rattle.rec_journal.specs.Plans.{nothing_there}
 use Rattle.rec_check.specs.DescribedTexts.{IsDescribedText}
 use Rattle.rec_tools.specs.Printouts.{printed_history, IsShownEdit, IsLogOf, IsWholeLog}
 use Rattle.rec_select.specs.Info.{IsInfo}
-use Rattle.rec_tools.specs.Requests.{Edits, IsOneEdit, IsBatch, editing, moving, reverting, forgetting, look_of, change_of, asked_of}
+use Rattle.rec_tools.specs.Requests.{Edits, IsOneEdit, IsBatch, editing, moving, reverting, forgetting, adopting, look_of, change_of, asked_of}
 use Rattle.rec_tools.specs.Reverting.{IsRevertOf}
-use Rattle.rec_tools.specs.Outcomes.{Outcome, IsMade, IsEditOutcome, IsPutBy, edit_reply, revert_reply, IsMove, IsForgetting, IsChangeOutcome, IsRequestOutcome, printing}
+use Rattle.rec_tools.specs.Outcomes.{Outcome, IsMade, IsEditOutcome, IsPutBy, edit_reply, revert_reply, IsMove, IsForgetting, IsAdoption, IsChangeOutcome, IsRequestOutcome, printing}
 use Rattle.rec_text.proofs.lemmas.FaultLemmas.{ok_is_no_err}
 use Rattle.rec_tools.proofs.lemmas.printing.PutsLemmas.{no_store_then, no_store_text}
 use Rattle.rec_tools.proofs.lemmas.printing.ShowLemmas.{no_store_show}
@@ -80,6 +80,11 @@ never_forgets : (n : ℕ) (dropping : Bool) (c : Contents) → IsChangeOutcome c
 never_forgets n dropping c =
     no_store_then (IsOpening c.file c.journal) (λ o. IsForgetting n dropping o c) (λ h. h) (λ o. no_store_forgetting n dropping o c)
 
+-- ---- adoptions
+
+never_adopts : (old : Option (List ℕ)) (c : Contents) → IsChangeOutcome c (adopting old) (Err StoreFailed) → ⊥
+never_adopts old c = no_store_then (IsOpening c.file c.journal) (λ o. IsAdoption old o c) (λ h. h) (λ o h. h.1.2)
+
 -- ---- what edits made
 
 none_such-no_store : (number : Option ℕ) → StoreFailed ≡ none_such number → ⊥
@@ -119,6 +124,7 @@ no_store_change (Undo through) c is = never_moves Backward through c is
 no_store_change (Redo through) c is = never_moves Forward through c is
 no_store_change (Revert number force) c is = never_reverts c number force is
 no_store_change (Forget n dropped) c is = never_forgets n dropped c is
+no_store_change (Adopt old) c is = never_adopts old c is
 
 pub never_store : (request : Request) (c : Contents) → IsRequestOutcome c (asked_of request) (Err StoreFailed) → ⊥
 never_store (Looks look) c is = no_store_look look c is

@@ -16,7 +16,7 @@ use Rattle.rec_journal.proofs.lemmas.plans.PlanLemmas.{one_move_plan}
 use Rattle.rec_edit.specs.declared.answer.Edited.{Edited}
 use Rattle.rec_tools.specs.declared.request.Reply.{Reply}
 use Rattle.rec_tools.specs.Home.{Contents, written}
-use Rattle.rec_tools.specs.Requests.{AskedChange, editing, moving, reverting, forgetting, change_of}
+use Rattle.rec_tools.specs.Requests.{AskedChange, editing, moving, reverting, forgetting, adopting, change_of}
 use Rattle.rec_tools.specs.Reverting.{IsRevertOf}
 use Rattle.rec_tools.specs.Outcomes.{Outcome, IsMade, IsPutBy, edit_reply, revert_reply, IsChangeOutcome}
 use Rattle.rec_tools.specs.Laws.{MadeAnEdit, BringsBack, UndoBringsBack, RedoBringsBack}
@@ -90,6 +90,9 @@ undo_after c (moving Backward through) done written_some made (inr (o, opens, (s
 undo_after c (forgetting n dropping) done written_some made (inl (fault, refused, e)) = absurd (no_both done fault e)
 undo_after c (forgetting n dropping) done written_some made (inr (o, opens, (settled, inl (few, e)))) = absurd (subst (λ (x : Outcome). MadeAnEdit x.reply) e made)
 undo_after c (forgetting n dropping) done written_some made (inr (o, opens, (settled, inr (more, f)))) = absurd (subst (λ (x : Outcome). MadeAnEdit x.reply) f.is made)
+undo_after c (adopting old) done written_some made (inl (fault, refused, e)) = absurd (no_both done fault e)
+undo_after c (adopting old) done written_some made (inr (o, opens, inl (settled, e))) = absurd (subst (λ (x : Outcome). MadeAnEdit x.reply) e made)
+undo_after c (adopting old) done written_some made (inr (o, opens, inr (drifted, (found, is, adopts)))) = absurd (subst (λ (x : Outcome). MadeAnEdit x.reply) adopts.is made)
 
 pub undo_brings_back : UndoBringsBack
 undo_brings_back c change done written_some made is = undo_after c (change_of change) done written_some made is

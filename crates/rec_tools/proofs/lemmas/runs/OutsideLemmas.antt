@@ -1,5 +1,5 @@
 -- A file that was changed outside, and what requests then come to.
-use Rattle.std.proofs.Common.{◌≡◌, ◌≢◌, inl, inr, ℕ, Bool, true, false, List, [], ◌∷◌, Option, Result, Ok, Err, sym, ap, subst, refl, ◌∙◌}
+use Rattle.std.proofs.Common.{◌≡◌, ◌≢◌, ◌⊎◌, inl, inr, ℕ, Bool, true, false, List, [], ◌∷◌, Option, Result, Ok, Err, sym, ap, subst, refl, ◌∙◌}
 use Rattle.std.specs.Prelude.{codes, if◌then◌else◌, map}
 use Rattle.std.proofs.lemmas.Bool.{false≢true}
 use Rattle.rec_text.specs.declared.fault.Fault.{Fault}
@@ -25,11 +25,11 @@ use Rattle.rec_tools.specs.declared.request.Request.{Request}
 use Rattle.rec_tools.specs.declared.request.Request.TheVariants.{Look as Looks, Change as Changes, Preview as Previews}
 use Rattle.rec_tools.specs.Home.{Contents, written}
 use Rattle.rec_tools.specs.Printouts.{history_text, verdict, IsShownText, IsShow, IsInfoOf, IsShownEdit, IsWholeLog}
-use Rattle.rec_tools.specs.Requests.{Edits, AskedChange, editing, moving, reverting, forgetting, Asked, looking, listing, showing, listing_changes, changing, previewing}
+use Rattle.rec_tools.specs.Requests.{Edits, AskedChange, editing, moving, reverting, forgetting, adopting, Asked, looking, listing, showing, listing_changes, changing, previewing}
 use Rattle.rec_tools.specs.Requests.{look_of, change_of, asked_of}
 use Rattle.rec_tools.specs.Outcomes.{Outcome, IsChangeOutcome, IsRequestOutcome, IsPlanned, IsPrinting, printing}
 use Rattle.rec_tools.specs.Machine.{AreEntries, Stands}
-use Rattle.rec_tools.specs.Laws.{MadeAnEdit, IsPreview, outside_state, BeginsAnew, OutsideIsNoticed}
+use Rattle.rec_tools.specs.Laws.{MadeAnEdit, IsPreview, outside_state, BeginsAnew, GoesOn, OutsideIsNoticed}
 use Rattle.rec_text.proofs.lemmas.FaultLemmas.{no_both, ok_is_no_err, same_value}
 use Rattle.rec_tools.proofs.lemmas.outcomes.OpeningLemmas.{edit_leads_back}
 use Rattle.rec_tools.proofs.lemmas.runs.RunLemmas.{writes_nothing}
@@ -92,7 +92,7 @@ module _ (c : Contents) (o : Opened) (opens : Opens c.file c.journal o) (drifted
   no_revert number force outcome (inr (text, is, inr (p, opened, inr (told, inr (found, standing, made), last)))) =
       not_settled p opened standing.0
 
-  begins_anew : (asked : Asked) (outcome : Outcome) → IsRequestOutcome c asked (Ok outcome) → outcome.writes ≢ [] → BeginsAnew c o asked outcome
+  begins_anew : (asked : Asked) (outcome : Outcome) → IsRequestOutcome c asked (Ok outcome) → outcome.writes ≢ [] → BeginsAnew c o asked outcome ⊎ GoesOn c o asked outcome
   begins_anew (looking IsText) outcome is some = absurd (some (writes_nothing c (looking IsText) outcome tt is))
   begins_anew listing outcome is some = absurd (some (writes_nothing c listing outcome tt is))
   begins_anew (showing number style) outcome is some = absurd (some (writes_nothing c (showing number style) outcome tt is))
@@ -105,14 +105,18 @@ module _ (c : Contents) (o : Opened) (opens : Opens c.file c.journal o) (drifted
   begins_anew (changing (editing IsEdit)) outcome (inr (text, is, inr (p, opened, inr (made, done, inl (same, e))))) some = absurd (some (ap (λ (x : Outcome). x.writes) e))
   begins_anew (changing (editing IsEdit)) outcome (inr (text, is, inr (p, opened, inr ((tool, made), done, inr (differs, (plan, planned, e)))))) some =
       let here : IsPlanned o c tool made plan = subst (λ x. IsPlanned x c tool made plan) (same_opening p opened) planned in
-      record {
+      inl (record {
         tool = tool;
         made = made;
         makes = done;
         stands = subst (λ (x : Outcome). Stands (written c x.writes) (outside_state c o tool made.steps made.text)) (sym e) (begun tool made plan here);
-      }
+      })
   begins_anew (changing (moving direction through)) outcome is some = absurd (ok_is_no_err outcome Drifted ⊥ (sym (no_move direction through (Ok outcome) is)))
   begins_anew (changing (forgetting n dropping)) outcome is some = absurd (ok_is_no_err outcome Drifted ⊥ (sym (nothing_forgotten n dropping (Ok outcome) is)))
+  begins_anew (changing (adopting old)) outcome (inl refused) some = let e = refused.2 in cc
+  begins_anew (changing (adopting old)) outcome (inr (p, opened, inl (settled, e))) some = absurd (not_settled p opened settled)
+  begins_anew (changing (adopting old)) outcome (inr (p, opened, inr (so, adopts))) some =
+      inr (subst (λ x. GoesOn c x (changing (adopting old)) outcome) (same_opening p opened) adopts)
 
   -- what is shown, or reported, is no edit that was made
   shown-no_edit : (reply : Reply) → reply ≡ Shown → MadeAnEdit reply → ⊥
@@ -147,6 +151,9 @@ module _ (c : Contents) (o : Opened) (opens : Opens c.file c.journal o) (drifted
   change-written (moving direction through) outcome is none made = ok_is_no_err outcome Drifted ⊥ (sym (no_move direction through (Ok outcome) is))
   change-written (reverting number force) outcome is none made = no_revert number force outcome is
   change-written (forgetting n dropping) outcome is none made = ok_is_no_err outcome Drifted ⊥ (sym (nothing_forgotten n dropping (Ok outcome) is))
+  change-written (adopting old) outcome (inl (fault, refused, e)) none made = no_both outcome fault e
+  change-written (adopting old) outcome (inr (p, opened, inl (settled, e))) none made = not_settled p opened settled
+  change-written (adopting old) outcome (inr (p, opened, inr (so, (found, is, adopts)))) none made = subst (λ (x : Outcome). MadeAnEdit x.reply) adopts.is made
 
   unwritten : (request : Request) (outcome : Outcome) → IsRequestOutcome c (asked_of request) (Ok outcome) → outcome.writes ≡ [] → MadeAnEdit outcome.reply
       → IsPreview (asked_of request)

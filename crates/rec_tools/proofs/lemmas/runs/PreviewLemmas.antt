@@ -14,14 +14,14 @@ use Rattle.rec_diff.specs.Diffs.{IsDiff}
 use Rattle.rec_diff.proofs.lemmas.DiffLemmas.{no_refused_diff}
 use Rattle.rec_tools.specs.Home.{TellAll, Went}
 use Rattle.rec_tools.specs.declared.decision.Decision.{Decision}
-use Rattle.rec_tools.specs.declared.decision.Decision.TheVariants.{Stay, Put}
+use Rattle.rec_tools.specs.declared.decision.Decision.TheVariants.{Stay, Put, Adopt}
 use Rattle.rec_tools.specs.declared.request.Reply.{Reply}
 use Rattle.rec_tools.specs.declared.request.Change.{Change}
 use Rattle.rec_tools.specs.Printouts.{WentOut, PutsPrintout}
 use Rattle.rec_tools.specs.Requests.{AskedChange, previewing, change_of}
 use Rattle.rec_tools.specs.Outcomes.{Outcome, IsChangeOutcome, IsRequestOutcome, IsPrinting, printing, outcome_of, reply_in}
 use Rattle.rec_tools.specs.Attempts.{gots}
-use Rattle.rec_tools.specs.proving.Courses.{contents, HasCourse, new_file_in, LeadsFromFile, IsTextOf, IsDecisionText, IsPreviewed}
+use Rattle.rec_tools.specs.proving.Courses.{contents, HasCourse, LeadsSo, IsTextOf, IsDecisionText, IsPreviewed}
 use Rattle.rec_text.proofs.lemmas.FaultLemmas.{no_both, same_value}
 use Rattle.rec_tools.proofs.lemmas.outcomes.StoreLemmas.{no_store_change}
 use Rattle.rec_tools.proofs.lemmas.printing.PutsLemmas.{PutsPrintout-err, refused_before, refused_within, printed_all}
@@ -31,9 +31,9 @@ pub decided-previewed : (style : DiffStyle) (file journal : List ℕ) (change : 
     → HasCourse file journal decision → (text : List ℕ) → IsDecisionText style file decision (Ok text)
     → IsRequestOutcome (contents file journal) (previewing style change) (Ok (printing text (reply_in decision)))
 decided-previewed style file journal change (Stay reply) is course text e =
-    (outcome_of (Stay reply), is, record { text = inl (refl, same_value text [] e); writes = refl; reply = refl })
+    (outcome_of (Stay reply), is, record { text = inl (refl, same_value text [] e); writes = refl; reply = refl; from = refl })
 decided-previewed style file journal change (Put put None reply) is course text e =
-    (outcome_of (Put put None reply), is, record { text = inl (refl, same_value text [] e); writes = refl; reply = refl })
+    (outcome_of (Put put None reply), is, record { text = inl (refl, same_value text [] e); writes = refl; reply = refl; from = refl })
 decided-previewed style file journal change (Put put (Some new) reply) is (e, across, steps) text diff = (
   outcome_of (Put put (Some new) reply),
   is,
@@ -41,6 +41,17 @@ decided-previewed style file journal change (Put put (Some new) reply) is (e, ac
     text = inr (new.direction, e, across, subst (λ ss. IsDiff new.direction style ss file new.text (Ok text)) steps diff);
     writes = refl;
     reply = refl;
+    from = refl;
+  },
+)
+decided-previewed style file journal change (Adopt put from steps reply) is (e, leads, same) text diff = (
+  outcome_of (Adopt put from steps reply),
+  is,
+  record {
+    text = (e, leads, subst (λ ss. IsDiff Forward style ss from file (Ok text)) same diff);
+    writes = refl;
+    reply = refl;
+    from = refl;
   },
 )
 
@@ -48,11 +59,13 @@ no_refused_decision : (style : DiffStyle) (file : List ℕ) (decision : Decision
 no_refused_decision style file (Stay reply) fault e = no_both {A = List ℕ} [] fault (sym e)
 no_refused_decision style file (Put put None reply) fault e = no_both {A = List ℕ} [] fault (sym e)
 no_refused_decision style file (Put put (Some new) reply) fault diff = no_refused_diff new.direction style new.steps file new.text fault diff
+no_refused_decision style file (Adopt put from steps reply) fault diff = no_refused_diff Forward style steps from file fault diff
 
 -- its steps lead from the file, or back to it
-pub course-leads : (file journal : List ℕ) (decision : Decision) → HasCourse file journal decision → LeadsFromFile file (new_file_in decision)
+pub course-leads : (file journal : List ℕ) (decision : Decision) → HasCourse file journal decision → LeadsSo file decision
 course-leads file journal (Stay reply) course = tt
 course-leads file journal (Put put None reply) course = tt
+course-leads file journal (Adopt put from steps reply) (e, leads, same) = subst (λ ss. LeadsBy ss from file) (sym same) leads.leads.leads
 course-leads file journal (Put put (Some new) reply) (e, across, steps) =
     subst (λ ss. Along new.direction (LeadsBy ss) file new.text) (sym steps) (related new.direction e file new.text across.leads)
   where

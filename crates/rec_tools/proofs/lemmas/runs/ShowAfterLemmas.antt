@@ -13,15 +13,17 @@ use Rattle.rec_journal.specs.Plans.{after_edit_plan, after_move}
 use Rattle.rec_journal.proofs.lemmas.histories.Countings.{drifted-empty}
 use Rattle.rec_journal.proofs.lemmas.histories.Openings.{one_opening}
 use Rattle.rec_diff.specs.declared.style.DiffStyle.{DiffStyle}
+use Rattle.rec_diff.specs.Diffs.{IsDiff}
 use Rattle.rec_tools.specs.declared.request.Reply.{Reply}
 use Rattle.rec_tools.specs.declared.request.Reply.TheVariants.{Shown}
 use Rattle.rec_tools.specs.Home.{Contents, written}
-use Rattle.rec_tools.specs.Requests.{AskedChange, editing, moving, reverting, forgetting, showing, change_of}
+use Rattle.rec_tools.specs.Requests.{AskedChange, editing, moving, reverting, forgetting, adopting, showing, change_of}
 use Rattle.rec_tools.specs.Reverting.{IsRevertOf}
-use Rattle.rec_tools.specs.Outcomes.{Outcome, IsMade, IsPutBy, edit_reply, revert_reply, IsChangeOutcome, IsRequestOutcome, IsPreviewText, LeadsAcross, printing}
-use Rattle.rec_tools.specs.Laws.{MadeAnEdit, PreviewIsShowAfter}
+use Rattle.rec_tools.specs.Outcomes.{Outcome, IsMade, IsPutBy, edit_reply, revert_reply, IsChangeOutcome, IsRequestOutcome, IsPreviewText, IsPreviewFrom, LeadsAcross, LeadsFrom, printing}
+use Rattle.rec_tools.specs.Laws.{MadeAnEdit, PreviewIsShowAfter, AdoptionIsShownAfter}
 use Rattle.rec_text.proofs.lemmas.FaultLemmas.{no_both, ok_is_no_err, same_value}
 use Rattle.rec_tools.proofs.lemmas.outcomes.OpeningLemmas.{move_differs}
+use Rattle.rec_tools.proofs.lemmas.outcomes.FromLemmas.{from_file}
 use Rattle.rec_tools.proofs.lemmas.outcomes.OutcomeLemmas.{one_change, one_change_outcome}
 
 -- the file is another one, and an edit more can be taken back
@@ -68,6 +70,9 @@ grew c (moving Forward through) done made (inr (o, opens, (settled, here, m))) =
 grew c (forgetting n dropping) done made (inl (fault, refused, e)) = absurd (no_both done fault e)
 grew c (forgetting n dropping) done made (inr (o, opens, (settled, inl (few, e)))) = absurd (subst (λ (x : Outcome). MadeAnEdit x.reply) e made)
 grew c (forgetting n dropping) done made (inr (o, opens, (settled, inr (more, f)))) = absurd (subst (λ (x : Outcome). MadeAnEdit x.reply) f.is made)
+grew c (adopting old) done made (inl (fault, refused, e)) = absurd (no_both done fault e)
+grew c (adopting old) done made (inr (o, opens, inl (settled, e))) = absurd (subst (λ (x : Outcome). MadeAnEdit x.reply) e made)
+grew c (adopting old) done made (inr (o, opens, inr (drifted, (found, is, adopts)))) = absurd (subst (λ (x : Outcome). MadeAnEdit x.reply) adopts.is made)
 
 -- a history with an edit hasn't drifted
 not_drifted : (file journal : List ℕ) (o : Opened) (e : Revision) (others : List Revision) → Opens file journal o → o.past ≡ e ∷ others → o.drifted ≡ false
@@ -119,8 +124,56 @@ module _ (c d : Contents) (style : DiffStyle) (text : List ℕ) (grows : GrewByO
       ))
   shown_after (inl (same, none)) = absurd (grows.differ same)
 
+-- what made an edit led from the file
+no_other_file : (c : Contents) (change : AskedChange) (done : Outcome) → MadeAnEdit done.reply → IsChangeOutcome c change (Ok done) → done.from ≡ None
+no_other_file c change done made is =
+    elim (from_file c change done is) [
+      | inl none ↦ none
+      | inr adopted ↦ absurd (subst MadeAnEdit adopted.reply made)
+    ]
+
 pub preview_is_show_after : PreviewIsShowAfter
 preview_is_show_after c change style done previewed made is (would, is_too, preview) =
     let same = same_value would done (one_change_outcome c (change_of change) (one_change change) (Ok would) (Ok done) is_too is (no_both would BadPattern) (no_both done BadPattern)) in
     shown_after c (written c done.writes) style previewed.text (grew c (change_of change) done made is)
-    (subst (λ (w : Outcome). IsPreviewText style c (written c w.writes) previewed.text) same preview.text)
+    (subst (λ f. IsPreviewFrom f style c (written c done.writes) previewed.text) (no_other_file c (change_of change) done made is)
+    (subst (λ (w : Outcome). IsPreviewFrom w.from style c (written c w.writes) previewed.text) same preview.text))
+
+-- ---- after an adoption
+
+shown_from : (from : List ℕ) (e : Revision) (d : Contents) (style : DiffStyle) (text : List ℕ) → LeadsFrom from e d → IsDiff Forward style e.steps from d.file (Ok text)
+    → IsRequestOutcome d (showing None style) (Ok (printing text Shown))
+shown_from from e d style text leads diff =
+    let made : WithTexts = with_texts Backward e d.file from in
+    let way : Way = record { direction = Backward; nearer = []; edit = e; farther = leads.others } in (
+      record { text = text; reply = Shown },
+      (
+        inr (
+          leads.there,
+          leads.opens_there,
+          inr (
+            made,
+            (
+              not_drifted d.file d.journal leads.there e leads.others leads.opens_there leads.newest,
+              way,
+              record { there = leads.newest; for = (refl, refl) },
+              record { here = d.file; there = from; over = refl; leads = leads.leads; is = refl },
+            ),
+            diff,
+          ),
+        ),
+        refl,
+      ),
+      refl,
+    )
+
+pub adoption_is_shown_after : AdoptionIsShownAfter
+adoption_is_shown_after c old style done previewed some (inl (fault, refused, e)) preview = absurd (no_both done fault e)
+adoption_is_shown_after c old style done previewed some (inr (o, opens, inl (settled, e))) preview = absurd (some (ap (λ (x : Outcome). x.writes) e))
+adoption_is_shown_after c old style done previewed some (inr (o, opens, inr (drifted, (found, is, adopts)))) (would, is_too, preview) =
+    let change : IsChangeOutcome c (adopting old) (Ok done) = inr (o, opens, inr (drifted, (found, is, adopts))) in
+    let same = same_value would done (one_change_outcome c (adopting old) tt (Ok would) (Ok done) is_too change (no_both would BadPattern) (no_both done BadPattern)) in
+    let printed : IsPreviewFrom done.from style c (written c done.writes) previewed.text =
+    subst (λ (w : Outcome). IsPreviewFrom w.from style c (written c w.writes) previewed.text) same preview.text in
+    let (e, leads, diff) = subst (λ f. IsPreviewFrom f style c (written c done.writes) previewed.text) (ap (λ (x : Outcome). x.from) adopts.is) printed in
+    shown_from found.text e (written c done.writes) style previewed.text leads diff

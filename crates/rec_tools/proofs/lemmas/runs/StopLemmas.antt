@@ -4,6 +4,7 @@ use Rattle.std.proofs.lemmas.List.{take_all}
 use Rattle.rec_journal.specs.declared.plan.Plan.{Plan}
 use Rattle.rec_journal.specs.History.{Opened, Opens, IsRegular}
 use Rattle.rec_journal.specs.Stops.{keep_in, IsSafe}
+use Rattle.rec_journal.specs.declared.ending.End.{End}
 use Rattle.rec_journal.specs.Forgetting.{forgotten_journal}
 use Rattle.rec_tools.specs.declared.home.Which.TheVariants.{Journal as TheJournal}
 use Rattle.rec_edit.specs.declared.answer.Edited.{Edited}
@@ -12,9 +13,9 @@ use Rattle.rec_journal.specs.declared.event.Tool.{Tool}
 use Rattle.rec_tools.specs.declared.request.Reply.{Reply}
 use Rattle.rec_tools.specs.Home.{Contents, Write, writes_by, written, Call, left_by_all}
 use Rattle.rec_tools.specs.Printouts.{Printed}
-use Rattle.rec_tools.specs.Requests.{AskedChange, editing, moving, reverting, forgetting, Asked, looking, listing, showing, listing_changes, changing, previewing, asked_of, reads_of}
+use Rattle.rec_tools.specs.Requests.{AskedChange, editing, moving, reverting, forgetting, adopting, Asked, looking, listing, showing, listing_changes, changing, previewing, asked_of, reads_of}
 use Rattle.rec_tools.specs.Reverting.{IsRevertOf}
-use Rattle.rec_tools.specs.Outcomes.{Outcome, IsChangeOutcome, IsRequestOutcome, IsMade, IsPutBy, edit_reply, revert_reply}
+use Rattle.rec_tools.specs.Outcomes.{Outcome, IsChangeOutcome, IsRequestOutcome, IsMade, IsPutBy, edit_reply, revert_reply, Adopts}
 use Rattle.rec_tools.specs.Attempts.{Answer, StopsWriting, IsAnswered, IsCarriedOut, Does}
 use Rattle.rec_tools.specs.Machine.{State, IsOldOrNext, Stands}
 use Rattle.rec_tools.specs.Guarantee.{StopsAreSteps, WritesAreRegular}
@@ -89,6 +90,12 @@ module _ (c : Contents) (regular : IsRegular c.journal) where
       parts (suc zero) = inl (record { regular = plan_regular; stands = half_stands })
       parts (suc (suc k)) = inr (ap (written c) (take_all (suc (suc k)) writes (omega arith)))
 
+  -- the journal of an adoption is regular
+  adopted_regular : (o : Opened) (found : End) (outcome : Outcome) → (adopts : Adopts o c found outcome) → IsRegular adopts.plan.journal
+  adopted_regular o found outcome adopts =
+      let enough : ℕ = found.history.keep + length adopts.plan.journal in
+      subst IsRegular (take_all enough adopts.plan.journal (omega arith)) ((adopts.planned.safe.stops (adopts.has_end.regular regular)).regular enough (omega arith))
+
   -- ---- an outcome
 
   leaves-put : (MakesOf : Opened → Result (Tool × Edited) Fault → Type 0) (reply_for : Opened → Tool → Edited → Reply) (outcome : Outcome)
@@ -111,6 +118,10 @@ module _ (c : Contents) (regular : IsRegular c.journal) where
   leaves_change (forgetting n dropping) outcome (inr (o, opens, (settled, inl (few, e)))) = leaves-nothing outcome.writes (ap (λ (x : Outcome). x.writes) e)
   leaves_change (forgetting n dropping) outcome (inr (o, opens, (settled, inr (more, f)))) =
       subst (λ (x : Outcome). Leaves c x.writes) (sym f.is) (leaves-journal (forgotten_journal (length o.past - (length o.past - n)) o) f.regular)
+  leaves_change (adopting old) outcome (inl refused) = let e = refused.2 in cc
+  leaves_change (adopting old) outcome (inr (o, opens, inl (settled, e))) = leaves-nothing outcome.writes (ap (λ (x : Outcome). x.writes) e)
+  leaves_change (adopting old) outcome (inr (o, opens, inr (drifted, (found, is, adopts)))) =
+      subst (λ (x : Outcome). Leaves c x.writes) (sym adopts.is) (leaves-journal adopts.plan.journal (adopted_regular o found outcome adopts))
 
   leaves : (asked : Asked) (outcome : Outcome) → IsRequestOutcome c asked (Ok outcome) → Leaves c outcome.writes
   leaves (looking IsText) outcome is = leaves-nothing outcome.writes (writes_nothing c (looking IsText) outcome tt is)

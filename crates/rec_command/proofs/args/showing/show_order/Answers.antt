@@ -12,4 +12,4 @@ returns-in_err-edit c =
     refuses-passed _ (Orders Show rows) _ c.from_residual.result c.from_residual.ensures.1 c.in_err-edit.ensures
     (λ order is.
     let needed = order-needs Show rows order is in
-    (needed.0.0, subst (λ word. IsEditGiven word needed.0.0) (sym c.number.ensures) needed.0.1))
+    (needed.0.0, subst (λ word. IsEditGiven word needed.0.0) (sym c.before_file.ensures) needed.0.1))

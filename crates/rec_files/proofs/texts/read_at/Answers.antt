@@ -6,7 +6,7 @@ use Rattle.rec_files.specs.Succeeding.{IsShort}
 use Rattle.rec_files.proofs.lemmas.Steps.{some_so}
 use Rattle.rec_files.proofs.lemmas.Replacing.{told_same}
 use Rattle.rec_files.proofs.lemmas.Succeeding.{opened_is_read, still_so}
-use Rattle.rec_files.proofs.batch.read_at.Goals as goal
+use Rattle.rec_files.proofs.texts.read_at.Goals as goal
 
 pub returns-clause-succeeds : goal.returns-clause-succeeds
 returns-clause-succeeds g c works =

@@ -1,4 +1,4 @@
-//! The text of a batch: read whole, before the file that is edited.
+//! A text that a change is given: read whole, before the file.
 ghost use Rattle.std.specs.Prelude.{◌≡◌, ◌≢◌, ◌≤◌, codes, length, Some, IfOk, IsSomeAnd};
 ghost use Rattle.rec_text.specs.Faults.{IsOkUnlessEither};
 ghost use Rattle.rec_disk.specs.Disk.{Told, IsMemory};
@@ -17,9 +17,9 @@ use std::io;
 /// The path that stands for standard input.
 const STANDARD_INPUT: &str = "-";
 
-/// The text of a batch: all bytes of the file at its path, and nothing is changed. That of `-` is what standard input still
-/// has. Where it can't be read, the path and the cause are told on standard error.
-pub fn batch_text<R: Input + Eprint + AllocGlobal, D: Disk>(
+/// A text that a change is given, as that of a batch: all bytes of the file at its path, and nothing is changed. That of `-` is
+/// what standard input still has. Where it can't be read, the path and the cause are told on standard error.
+pub fn whole_text<R: Input + Eprint + AllocGlobal, D: Disk>(
     rt: &R,
     disk: &mut D,
     path: &str,

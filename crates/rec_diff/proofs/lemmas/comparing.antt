@@ -1,0 +1,9 @@
+pub mod RankLemmas
+pub mod LongestLemmas
+pub mod LandmarkLemmas
+pub mod CuttingLemmas
+pub mod CutsLemmas
+pub mod BetweenLemmas
+pub mod AgainLemmas
+pub mod LeadingLemmas
+pub mod StepLemmas

@@ -169,7 +169,7 @@ quick() {
 }
 
 program() {
-    cases "${1-}" tests/{edits,batches,diffs,through,revert,forgetting,usage,explanations,notes,files,folders,rivals,looks,stops,rights,streams,selecting,rules,sessions,manual,completions,installing,model,tries}.bats
+    cases "${1-}" tests/{edits,batches,diffs,through,revert,adopting,forgetting,usage,explanations,notes,files,folders,rivals,looks,stops,rights,streams,selecting,rules,sessions,manual,completions,installing,model,tries}.bats
 }
 
 memory() {

@@ -335,6 +335,38 @@ prints_as_the_file() {
     only db.rec hard link
 }
 
+# on_two_file_systems: FILE stands on one and its journal on the other, each of which numbers its files by itself
+on_two_file_systems() {
+    local number path
+    mkdir one two
+    mount -t tmpfs none one && mount -t tmpfs none two || exit 77
+    printf 'A: 1\n\nB: 2\n' > one/db.rec
+    "$program" recset -n 0 -f A -s 8 --journal two/j one/db.rec || exit 1
+    for _ in {1..200}; do
+        number=$(($(stat -c %i one/db.rec) - $(stat -c %i two/j)))
+        [ "$number" != 0 ] || break
+        path=two/j
+        [ "$number" -gt 0 ] || path=one/db.rec
+        cp "$path" "$path.copy" && mv "$path.copy" "$path"
+    done
+    [ "$number" = 0 ] || exit 77
+    "$program" recset -n 1 -f B -s 9 --journal two/j one/db.rec || exit 1
+    [ "$(< one/db.rec)" = $'A: 8\n\nB: 9' ] || exit 1
+}
+
+@test "a file and a journal of one number, on two file systems" {
+    local status=0 flags=-m
+    unshare -m true 2> /dev/null || flags=-rm
+    export program
+    {
+        declare -f on_two_file_systems
+        echo on_two_file_systems
+    } > script
+    unshare "$flags" bash script > said 2>&1 3>&- || status=$?
+    [ "$status" != 77 ] && ! grep -q '^unshare: ' said || skip "no file systems can be mounted, or no two files get one number: $(tail -n 1 said)"
+    [ "$status" = 0 ] || fail "$(< said)"
+}
+
 @test "one of the two under the working name of the other" {
     put db.rec "$three"
     fails_to_store './db.rec.new: the file or its journal stands under the working name of the other' recdel -n 0 --journal ./db.rec.new db.rec

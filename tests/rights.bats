@@ -342,6 +342,19 @@ locks() {
     has db.rec 'A: 8¶¶B: 2¶¶C: 3¶'
 }
 
+@test "looking opens nothing for writing" {
+    can_trace
+    local words
+    put db.rec "$three"
+    does recset -n 0 -f A -s 8 db.rec
+    for words in 'recsel' 'recfix' 'history --patch' 'show' 'recdel --dry-run -n 0' 'recfix --auto --dry-run' 'undo --dry-run' \
+        'revert --dry-run 1'; do
+        strace -f -qq -o "$BATS_TEST_TMPDIR/trace" -e trace=openat "$program" $words db.rec > /dev/null 3>&- || fail "$words is refused"
+        grep -q '"db.rec"' "$BATS_TEST_TMPDIR/trace" || fail "$words: db.rec isn't opened"
+        ! grep 'O_RDWR\|O_WRONLY\|O_CREAT' "$BATS_TEST_TMPDIR/trace" || fail "$words opens that for writing"
+    done
+}
+
 # edited_twice: the file with two edits in its journal
 edited_twice() {
     put db.rec "$three"

@@ -23,6 +23,8 @@ fn print_change(rt: &HostRuntime, story: &Story, step: &Step) -> io::Result<()> 
         Step::Renamed { from, to } => println!(rt; "rename {from} {to}"),
         Step::Removed { path } => println!(rt; "remove {path}"),
         Step::FolderSynced { path } => println!(rt; "sync_folder {}", folder_of(path.as_str())),
+        // (whose a file is is no name, and nothing that a crash could leave half done)
+        Step::Gave { .. } => Ok(()),
         Step::Held { number } => println!(rt; "hold {}", story.path_of(*number)),
     }
 }

@@ -1,11 +1,14 @@
 -- A disk: what stands at its places, what a stop or a crash may leave of it, and what each call does.
 use Rattle.std.specs.Prelude.{◌≡◌, ◌≢◌, ◌⊎◌, ℕ, suc, Bool, true, false, List, [], ◌∷◌, ◌++◌, length, take, map}
 use Rattle.std.specs.Prelude.{bytes_eq, ◌==◌, if◌then◌else◌}
-use Rattle.std.specs.Prelude.{Option, Some, None, Result, Ok, Err, IfErr}
+use Rattle.std.specs.Prelude.{Option, Some, None, Result, Ok, Err, IfErr, IfSome, option_map}
+use Rattle.std.specs.Option.{option_and_then}
 use Rattle.std.specs.List.{AllByRecursion}
 use Rattle.std.specs.IoError.{error_kind}
 use Rattle.std.specs.declared.io.Error.{Error}
 use Rattle.std.specs.declared.io.ErrorKind.TheVariants.{OutOfMemory}
+use Rattle.rec_disk.specs.declared.log.Rights.{Rights}
+use Rattle.rec_disk.specs.Rights.{Lets, AreLet, narrow, own_mode}
 
 -- ---- states
 
@@ -28,6 +31,9 @@ pub record State : Type 0 where
   pub version : ℕ → ℕ
   -- the files that another program has locked
   pub held : ℕ → Bool
+  -- of each file its rights, and to whom the system lets it be given
+  pub rights : ℕ → Rights
+  pub lets : Lets
 
 -- no file has, or lately had, this number
 pub record IsFresh (s : State) (n : ℕ) : Type 0 where
@@ -36,6 +42,7 @@ pub record IsFresh (s : State) (n : ℕ) : Type 0 where
 
 -- ---- changes
 
+-- of a file that is made its owner alone may read it: whoever that is
 abbrev pub made : State → List ℕ → ℕ → State
 made s p n = record s {
   at = put s.at p (Some n);
@@ -43,7 +50,11 @@ made s p n = record s {
   bytes = set s.bytes n [];
   safe = set s.safe n true;
   held = set s.held n false;
+  rights = set s.rights n (record (s.rights n) { mode = own_mode });
 }
+
+abbrev pub gave : State → ℕ → Rights → State
+gave s n rights = record s { rights = set s.rights n rights }
 
 abbrev pub wrote : State → ℕ → List ℕ → State
 wrote s n bytes = record s {
@@ -75,6 +86,7 @@ pub record Look : Type 0 where
   pub number : ℕ
   pub version : ℕ
   pub length : ℕ
+  pub rights : Rights
   -- a symbolic link
   pub is_link : Bool
 
@@ -87,11 +99,27 @@ pub record IsLookFor (s : State) (n : ℕ) (look : Look) : Type 0 where
   pub number : look.number ≡ n
   pub version : look.version ≡ s.version n
   pub length : look.length ≡ length (s.bytes n)
+  pub rights : look.rights ≡ s.rights n
 
 -- the look is one at a place, where a file stands
 pub record IsLookAt (s : State) (p : List ℕ) (look : Look) : Type 0 where
   pub number : s.at p ≡ Some look.number
   pub version : look.version ≡ s.version look.number
+  pub rights : look.rights ≡ s.rights look.number
+
+-- the two are of one file, which nobody wrote, or gave other rights, between them
+pub record AreAlike (one other : Look) : Type 0 where
+  pub number : one.number ≡ other.number
+  pub version : one.version ≡ other.version
+  pub rights : one.rights ≡ other.rights
+
+-- the rights of which a look tells, and those that a new journal gets by looks at its file and at the older journal
+abbrev pub rights_seen : Option Look → Option Rights
+rights_seen look = option_map (λ look. look.rights) look
+
+abbrev pub narrow_seen : Option Look → Option (Option Look) → Option Rights
+narrow_seen model older =
+    option_map (λ model. narrow model (option_and_then rights_seen older)) (rights_seen model)
 
 -- ---- calls
 
@@ -115,6 +143,13 @@ module _ {F E : Type 0} where
 
   abbrev pub IsRemove : List ℕ → Result F E → State → State → Type 0
   IsRemove p result s t = t ≡ removed s p
+
+-- The rights that were wanted, as far as the system lets them be given. A call that failed may have given owner and
+-- group alone.
+abbrev pub IsGiven : ℕ → Option Rights → Bool → State → State → Type 0
+IsGiven n wanted true s t =
+    (rights : Rights) × IfSome wanted (λ wanted. AreLet s.lets wanted rights) × (t ≡ gave s n rights)
+IsGiven n wanted false s t = (rights : Rights) × (rights.mode ≡ (s.rights n).mode) × (t ≡ gave s n rights)
 
 -- where folders can't be synced, nothing is done, and the answer is false
 abbrev pub IsFolderSync : {E : Type 0} → (List ℕ → List ℕ) → List ℕ → Result Bool E → State → State → Type 0

@@ -58,8 +58,8 @@ abbrev pub shown : (ℕ → List ℕ) → Option ℕ → Option (List ℕ)
 shown bytes None = None
 shown bytes (Some n) = Some (bytes n)
 
--- From the one state to the other nothing came to the place, and no file there was written, locked or let go, or became
--- less safe: what a stop or a crash may leave there is what it might have left before.
+-- From the one state to the other nothing came to the place, and no file there was written, locked or let go, or given
+-- other rights, or became less safe: what a stop or a crash may leave there is what it might have left before.
 pub record Spares (p : List ℕ) (s t : State) : Type 0 where
   pub at : t.at p ≡ s.at p
   pub may : (x : Option ℕ) → MayStand true t p x → MayStand true s p x
@@ -67,3 +67,5 @@ pub record Spares (p : List ℕ) (s t : State) : Type 0 where
   pub version : (n : ℕ) → MayStand true t p (Some n) → t.version n ≡ s.version n
   pub held : (n : ℕ) → MayStand true t p (Some n) → t.held n ≡ s.held n
   pub safe : (n : ℕ) → MayStand true t p (Some n) → s.safe n ≡ true → t.safe n ≡ true
+  pub rights : (n : ℕ) → MayStand true t p (Some n) → t.rights n ≡ s.rights n
+  pub lets : t.lets ≡ s.lets

@@ -1,5 +1,8 @@
--- The rights of a file, by its mode: 4 to read, 2 to write, 1 to run, for each of owner, group and others.
-use Rattle.std.specs.Prelude.{ℕ, ◌+◌, ◌*◌, ◌/◌, ◌%◌, Bool, true, false, bit_and, if◌then◌else◌}
+-- The rights of a file: its owner, its group, and by its mode 4 to read, 2 to write, 1 to run, for each of owner, group
+-- and others.
+use Rattle.std.specs.Prelude.{◌≡◌, ℕ, ◌+◌, ◌*◌, ◌/◌, ◌%◌, ◌==◌, Bool, true, false, bit_and, if◌then◌else◌}
+use Rattle.std.specs.Prelude.{Option, option_map, unwrap_or}
+use Rattle.rec_disk.specs.declared.log.Rights.{Rights}
 
 -- the octal digits of a mode
 abbrev pub others_of : ℕ → ℕ
@@ -33,6 +36,35 @@ abbrev pub special_left : ℕ → Bool → Bool → ℕ
 special_left bits owner_kept group_kept = (if owner_kept then bits / 4 else 0) * 4 + (if group_kept then bits / 2 % 2
     else 0) * 2 + bits % 2
 
+-- all that is left of a mode
+abbrev pub left_mode : ℕ → Bool → Bool → ℕ
+left_mode mode owner_kept group_kept =
+    special_left (special_of mode) owner_kept group_kept * 512 + owner_of mode * 64
+    + bit_and (group_of mode) (most mode owner_kept group_kept) * 8
+    + bit_and (others_of mode) (most mode owner_kept group_kept)
+
 -- to read and to write, for all three
 abbrev pub read_or_write : ℕ
 read_or_write = (6 * 8 + 6) * 8 + 6
+
+-- to read and to write, for the owner alone
+abbrev pub own_mode : ℕ
+own_mode = 6 * 64
+
+-- the rights of a model to read and to write, and of these, where there is an older file, those that this had too
+abbrev pub narrow : Rights → Option Rights → Rights
+narrow model older = record model {
+  mode = bit_and (bit_and model.mode read_or_write) (unwrap_or (option_map (λ one. one.mode) older) read_or_write);
+}
+
+-- the owners and the groups to which the system lets a file be given
+pub record Lets : Type 0 where
+  pub owner : ℕ → Bool
+  pub group : ℕ → Bool
+
+-- of the rights that were wanted these are the owner and the group, where the system lets them be given, and of the
+-- mode what goes with those that the file has
+pub record AreLet (lets : Lets) (wanted rights : Rights) : Type 0 where
+  pub owner : lets.owner wanted.owner ≡ true → rights.owner ≡ wanted.owner
+  pub group : lets.group wanted.group ≡ true → rights.group ≡ wanted.group
+  pub mode : rights.mode ≡ left_mode wanted.mode (rights.owner == wanted.owner) (rights.group == wanted.group)

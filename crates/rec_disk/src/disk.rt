@@ -1,8 +1,10 @@
 //! A disk, by the calls that are made of it.
 ghost use Rattle.std.specs.Prelude.{◌≡◌, ℕ, ◌+◌, Bool, List, Option, Some, None, not, false, take, IfOk, IfErr};
-ghost use Rattle.std.specs.Prelude.{IsSome, is_some, IsSomeAnd, MatchOption, string_bytes, ◌↔◌, IsTrue};
+ghost use Rattle.std.specs.Prelude.{IsSome, is_some, IsSomeAnd, MatchOption, option_map, string_bytes, ◌↔◌, IsTrue};
 ghost use Rattle.std.specs.IoError.{error_kind};
+ghost use Rattle.std.specs.Result.{is_ok};
 ghost use Rattle.rec_disk.specs.Disk.{Story, Look, Goes, Told, SaysOf, IsLookFor, IsLookAt, IsMake, IsWrite, IsSync};
+ghost use Rattle.rec_disk.specs.Disk.{AreAlike, IsGiven, rights_seen, narrow_seen};
 ghost use Rattle.rec_disk.specs.Disk.{IsRename, IsRemove, IsFolderSync, IsExcused};
 
 use std::alloc::Global;
@@ -73,10 +75,10 @@ pub trait Disk {
         ensures { SaysOf (λ one. SaysOf (λ other. IsTrue result ↔ (one.number ≡ other.number)) (tells second.now))
             (tells first.now) };
 
-    /// Whether both are of one file, which nobody wrote between the two.
+    /// Whether both are of one file, which nobody wrote, or gave other rights, between the two.
     fn is_unchanged(before: &Self::Status, now: &Self::Status) -> bool
-        ensures { SaysOf (λ one. SaysOf (λ other. IsTrue result
-            ↔ ((one.number ≡ other.number) × (one.version ≡ other.version))) (tells now.now)) (tells before.now) };
+        ensures { SaysOf (λ one. SaysOf (λ other. IsTrue result ↔ AreAlike one other) (tells now.now))
+            (tells before.now) };
 
     fn is_link(status: &Self::Status) -> bool
         ensures { SaysOf (λ look. result ≡ look.is_link) (tells status.now) };
@@ -137,7 +139,8 @@ pub trait Disk {
 
     /// Gives a file the owner, the group and the mode of another one, as far as the system lets it.
     fn give_rights(&mut self, file: &Self::File, old: &Self::Status) -> io::Result<()>
-        ensures same { story self.new ≡ story self.old }
+        ensures goes { Goes (story self.old) (story self.new) result
+            (IsGiven (number file.now) (rights_seen (tells old.now)) (is_ok result)) }
         ensures excused { IsExcused (works self.old) (works self.new) result (λ error. ⊥) };
 
     /// Gives a file the owner and the group of a model, as far as the system lets it, and of the rights of that those to read
@@ -148,7 +151,8 @@ pub trait Disk {
         model: &Self::Status,
         old: Option<&Self::Status>,
     ) -> io::Result<()>
-        ensures same { story self.new ≡ story self.old }
+        ensures goes { Goes (story self.old) (story self.new) result (IsGiven (number file.now)
+            (narrow_seen (tells model.now) (option_map (λ old. tells old.now) old.entry)) (is_ok result)) }
         ensures excused { IsExcused (works self.old) (works self.new) result (λ error. ⊥) };
 
     /// Checks that a file that was made beside the one at a path may take its place.
@@ -217,4 +221,7 @@ pub trait Disk {
     /// A path leads where its link leads, or where no link stands, to its own place.
     ghost led: { (path : List ℕ) → MatchOption (link path) (leads path ≡ place path)
         (λ next. leads path ≡ leads next) };
+
+    /// A disk that tells its story tells what each status says.
+    ghost told: { (disk : Self) (status : Self.Status) → IsSome (story disk) → IsSome (tells status) };
 }

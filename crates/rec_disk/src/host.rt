@@ -7,7 +7,7 @@ use crate::{owners, rights};
 use std::alloc::Global;
 use std::fs::{File, Metadata, OpenOptions, TryLockError};
 use std::io::{Error, ErrorKind, Read, Seek, SeekFrom, Write};
-use std::os::unix::fs::{MetadataExt, OpenOptionsExt};
+use std::os::unix::fs::{MetadataExt, OpenOptionsExt, PermissionsExt};
 use std::path::Path;
 use std::rt::Files;
 use std::{fs, io};
@@ -53,6 +53,8 @@ impl<R: Files<File = File>> Disk for HostDisk<R> {
 
     ghost led = { λ path. refl };
 
+    ghost told = { λ disk status story. story };
+
     fn status(&mut self, path: &str) -> io::Result<Metadata> {
         fs::symlink_metadata(&self.rt, path)
     }
@@ -77,6 +79,9 @@ impl<R: Files<File = File>> Disk for HostDisk<R> {
             && before.mtime_nsec() == now.mtime_nsec()
             && before.ctime() == now.ctime()
             && before.ctime_nsec() == now.ctime_nsec()
+            && before.uid() == now.uid()
+            && before.gid() == now.gid()
+            && before.mode() == now.mode()
     }
 
     fn is_link(status: &Metadata) -> bool {
@@ -147,7 +152,7 @@ impl<R: Files<File = File>> Disk for HostDisk<R> {
         OpenOptions::new()
             .write(true)
             .create_new(true)
-            .mode(0o600)
+            .mode(rights::OWN_MODE)
             .open(&self.rt, path)
     }
 

@@ -17,6 +17,6 @@ pub use disk::Disk;
 pub use escaped::Escaped;
 pub use folders::folder_of;
 pub use host::HostDisk;
-pub use log::Step;
+pub use log::{Rights, Step};
 pub use memory::{Failing, MemoryDisk, MemoryFile, MemoryStatus};
 pub use paths::{are_apart, beside, journal_path};

@@ -1,6 +1,7 @@
 //! Owner, group and mode of a new file, and whether it may take the place of the old one.
 ghost use Rattle.std.specs.Prelude.{◌≡◌, ◌<◌, bit_and, unwrap_or};
 ghost use Rattle.rec_disk.specs.Rights.{owner_of, group_of, others_of, special_of, most, read_or_write, special_left};
+ghost use Rattle.rec_disk.specs.Rights.{left_mode};
 
 use crate::folders::folder_of;
 use std::alloc::Global;
@@ -10,6 +11,9 @@ use std::os::fd::AsRawFd;
 use std::os::unix::fs::{MetadataExt, PermissionsExt, fchown};
 use std::rt::Files;
 use std::{fs, io};
+
+/// To read and to write, for the owner alone: the mode of what is made.
+pub const OWN_MODE: u32 = 0o600;
 
 /// To read and to write, for the owner, the group and others.
 const READ_OR_WRITE: u32 = 0o666;
@@ -21,6 +25,7 @@ pub fn kept_mode(mode: u32, owner_kept: bool, group_kept: bool) -> u32
     ensures group { group_of result ≡ bit_and (group_of mode) (most mode owner_kept group_kept) }
     ensures others { others_of result ≡ bit_and (others_of mode) (most mode owner_kept group_kept) }
     ensures special { special_of result ≡ special_left (special_of mode) owner_kept group_kept }
+    ensures whole { result ≡ left_mode mode owner_kept group_kept }
 {
     let (owner, group, others) = (mode / 64 % 8, mode / 8 % 8, mode % 8);
     let by_group = if group_kept { 7 } else { group & others };

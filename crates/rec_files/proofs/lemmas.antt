@@ -3,6 +3,7 @@ pub mod Outcomes
 pub mod Removing
 pub mod Placing
 pub mod Playing
+pub mod Rights
 pub mod Promises
 pub mod Played
 pub mod Putting

@@ -1,9 +1,11 @@
 -- What a file and its journal hold on a disk, and what a stop of the program or a crash of the machine leaves of them.
 use Rattle.std.specs.Prelude.{◌≡◌, ◌≢◌, ◌⊎◌, ◌≤◌, ℕ, Bool, true, false, List, [], ◌∷◌, length, take, Option, Some, None}
-use Rattle.std.specs.Prelude.{IfSome}
+use Rattle.std.specs.Prelude.{IfSome, option_map}
 use Rattle.std.specs.Prelude.{IsSome, IsSomeAnd, Err}
 use Rattle.rec_text.specs.declared.fault.Fault.TheVariants.{StoreFailed}
 use Rattle.rec_disk.specs.Disk.{State, Story, Told, AtAnyMoment}
+use Rattle.rec_disk.specs.declared.log.Rights.{Rights}
+use Rattle.rec_disk.specs.Rights.{Lets, AreLet, narrow, own_mode}
 use Rattle.rec_disk.specs.Lasting.{Left, Leaves, LeavesAt, LeavesInOrder, Spares, shown}
 use Rattle.rec_tools.specs.Home.{Contents, Write, Call, got, lacked, unread, put_all, put_some, written, left_by}
 use Rattle.rec_tools.specs.Home.{TellsOf, CountsFailure, content_of}
@@ -140,12 +142,48 @@ abbrev pub SparesStrangers : Sites → Option Story → Option Story → Type 0
 SparesStrangers sites old new = (p : List ℕ) → p ≢ sites.file → p ≢ sites.journal → p ≢ sites.new_file
     → p ≢ sites.new_journal → AtAnyMoment old new (Spares p)
 
+-- ---- rights
+
+-- the rights of what stands at a place
+abbrev pub rights_at : State → List ℕ → Option Rights
+rights_at s p = option_map s.rights (s.at p)
+
+-- these are what was wanted, as far as the system lets it
+abbrev pub AreLetOf : Lets → Option Rights → Rights → Type 0
+AreLetOf lets wanted rights = IfSome wanted (λ wanted. AreLet lets wanted rights)
+
+-- a new file gets the rights of the one in whose place it is put
+abbrev pub FileGets : Sites → State → Rights → Type 0
+FileGets sites s rights = AreLetOf s.lets (rights_at s sites.file) rights
+
+-- and a new journal those of its file to read and to write, no more than an older one had
+abbrev pub JournalGets : Sites → State → Rights → Type 0
+JournalGets sites s rights =
+    AreLetOf s.lets (option_map (λ model. narrow model (rights_at s sites.journal)) (rights_at s sites.file)) rights
+
+-- what stands at a place stood there before, with the rights that it had, or this holds of its rights and its bytes
+abbrev pub IsNewAt : List ℕ → (Rights → List ℕ → Type 0) → State → State → Type 0
+IsNewAt p IsNew s u = (n : ℕ) → u.at p ≡ Some n
+    → ((s.at p ≡ Some n) × (u.rights n ≡ s.rights n)) ⊎ IsNew (u.rights n) (u.bytes n)
+
+-- what is made is empty, and its owner's alone, until it gets its rights
+abbrev pub IsEmptyOr : (Rights → Type 0) → Rights → List ℕ → Type 0
+IsEmptyOr Gets rights bytes = ((rights.mode ≡ own_mode) × (bytes ≡ [])) ⊎ Gets rights
+
+-- what is new of the four has its rights, before its first byte
+pub record GivesRights (sites : Sites) (s u : State) : Type 0 where
+  pub file : IsNewAt sites.file (λ rights bytes. FileGets sites s rights) s u
+  pub journal : IsNewAt sites.journal (λ rights bytes. JournalGets sites s rights) s u
+  pub new_file : IsNewAt sites.new_file (IsEmptyOr (FileGets sites s)) s u
+  pub new_journal : IsNewAt sites.new_journal (IsEmptyOr (JournalGets sites s)) s u
+
 -- nothing is changed; or nothing but the file and its journal and what stands under their working names, where nobody's
--- file stood before
+-- file stood before, and what is new of these has its rights
 abbrev pub TouchesOwn : (List ℕ → List ℕ) → Places → Option Story → Option Story → Type 0
 TouchesOwn place p old new = (new ≡ old)
     ⊎ ((file journal : List ℕ) × (place file ≡ p.file) × (place journal ≡ p.journal)
-    × Told old (AreLeft (sites_of place file journal)) × SparesStrangers (sites_of place file journal) old new)
+    × Told old (AreLeft (sites_of place file journal)) × SparesStrangers (sites_of place file journal) old new
+    × AtAnyMoment old new (GivesRights (sites_of place file journal)))
 
 -- ---- calls
 

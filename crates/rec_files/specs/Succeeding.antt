@@ -317,13 +317,15 @@ ReplacesNoted leads kept old (put_all writes) new = Told old (AreAsNoted leads k
 ReplacesNoted leads kept old (put_some writes k) new = (new ≡ old) ⊎ Told old (AreAsNoted leads kept)
 ReplacesNoted leads kept old _ new = Unit {0}
 
--- A home that put a journal holds it locked; the next read of the file notes what stands there of it, before its lock
--- is let go; and the next one of the journal finds this at its beginning: who wrote there meanwhile only added to it.
+-- A home that put a journal holds it locked, and both as it read them. The next read of the file notes what stands of
+-- the journal, before its lock is let go; and the next one of the journal finds this at its beginning: who wrote there
+-- meanwhile only added to it.
 abbrev pub GoesOn : (List ℕ → List ℕ) → Kept → Kept → Option Story → Call → Type 0
 GoesOn leads kept now story (got Base bytes) = IfLocked kept.last (IsSomeAnd (let_go now.last)
     (λ last. Told story (IsStanding leads kept.journal last)))
 GoesOn leads kept now story (got Journal bytes) = IfSome (let_go kept.last) (λ last. BeginsWith last bytes)
-GoesOn leads kept now story (put_all writes) = now.last ≡ Locked
+GoesOn leads kept now story (put_all writes) =
+    (now.last ≡ Locked) × ((now.old_file ≡ kept.old_file) × (now.old_journal ≡ kept.old_journal))
 GoesOn leads kept now story _ = Unit {0}
 
 -- what a home may do stays; one with a journal reads regular files alone; one that may write reads nothing that another

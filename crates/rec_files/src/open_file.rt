@@ -1,10 +1,10 @@
 //! A file as it was read, locked to the end of the program's work, and whether it still stands at its path.
-ghost use Rattle.std.specs.Prelude.{◌≡◌, ◌≢◌, ◌≤◌, length, None, Some, Ok, Err, false, IfOk, IfErr, IfSome, IsSome};
+ghost use Rattle.std.specs.Prelude.{◌≡◌, ◌≢◌, ◌≤◌, length, None, Some, Ok, Err, true, false, IfOk, IfErr, IfSome, IsSome};
 ghost use Rattle.std.specs.Prelude.{option_map, ◌↔◌, IsTrue, IsSomeAnd};
 ghost use Rattle.std.specs.IoError.{error_kind};
-ghost use Rattle.rec_disk.specs.Disk.{Told, IsLookFor, IsMemory};
+ghost use Rattle.rec_disk.specs.Disk.{Told, SaysOf, IsLookFor, IsMemory};
 ghost use Rattle.rec_files.specs.Succeeding.{SawAnother, IsUnlocked};
-ghost use Rattle.rec_files.specs.proving.Succeeding.{Succeeds, CanRead};
+ghost use Rattle.rec_files.specs.proving.Succeeding.{Succeeds, CanRead, IsLookStill};
 
 use crate::failure::{changed, locked, one_file};
 use crate::reading::{LIMIT, read_whole};
@@ -42,6 +42,8 @@ impl<D: Disk> OpenFile<D> {
         ensures limit { IfOk result (λ bytes. length bytes.items ≤ LIMIT) }
         ensures whole { IfOk result (λ bytes. Told (D.story disk.old)
             (λ s. bytes.items ≡ s.bytes (D.number self.now.file))) }
+        ensures still { IfOk result (λ bytes. Told (D.story disk.old) (λ s. SaysOf (λ look. D.regular look.number ≡ true
+            → IsLookStill s (D.number self.now.file) look) (D.tells self.now.seen))) }
         ensures succeeds { Succeeds IsMemory D.works D.story disk.old disk.new result (CanRead (D.number self.now.file)
             (D.tells self.now.seen)) }
     {
@@ -57,6 +59,9 @@ impl<D: Disk> OpenFile<D> {
         ensures same { D.story disk.new ≡ D.story disk.old }
         ensures still { IfOk result (λ disturbed. Told (D.story disk.old)
             (λ s. CanRead (D.number self.now.file) (D.tells self.now.seen) s → disturbed ≡ false)) }
+        ensures disturbed { IfOk result (λ disturbed. Told (D.story disk.old) (λ s. SaysOf (λ look.
+            D.regular look.number ≡ true → disturbed ≡ false → IsLookStill s (D.number self.now.file) look)
+            (D.tells self.now.seen))) }
         ensures succeeds { Succeeds IsMemory D.works D.story disk.old disk.new result (λ s. Unit {0}) }
     {
         Ok(D::is_regular(&self.seen) && !D::is_unchanged(&self.seen, &disk.status_of(&self.file)?))

@@ -22,8 +22,12 @@ pub enum Act {
     Make,
     /// Syncs its folder, where the other of the two stands in another one.
     Part,
-    /// Checks that what was made may take its place, and gives it rights.
+    /// Checks that what was made may take the place of what was read, and gives it the rights of that.
     Fit,
+    /// The same of a journal, which gets of its file's rights those to read and to write, and no more than the older one had.
+    Narrow,
+    /// Checks that what was made isn't what stands at the path of the other of the two.
+    Clash,
     /// Refuses what could not be read again.
     Measure,
     /// Looks whether what was read still stands there, and what was made under the working name.
@@ -75,13 +79,14 @@ const READY_OF_BOTH: [Step; 7] = [
 
 /// Everything is made ready before either of the two is replaced, and the journal comes first. What is met after its rename is
 /// a failing sync or rename, or a save from outside.
-const BOTH: [Step; 15] = [
+const BOTH: [Step; 16] = [
     Step(Journal, Make),
     // After a power cut too it stands beside the file's, which is made next.
     Step(Journal, Part),
     Step(Base, Make),
     Step(Base, Fit),
-    Step(Journal, Fit),
+    Step(Base, Clash),
+    Step(Journal, Narrow),
     Step(Journal, Write),
     Step(Journal, Keep),
     Step(Base, Measure),
@@ -98,7 +103,7 @@ const BOTH: [Step; 15] = [
 const ALONE: [Step; 8] = [
     Step(Journal, Make),
     Step(Journal, Part),
-    Step(Journal, Fit),
+    Step(Journal, Narrow),
     Step(Journal, Write),
     Step(Journal, Keep),
     Step(Base, Look),
@@ -260,7 +265,9 @@ fn perform<D: Disk>(
         Look => target.look_again(disk, new),
         Remove => target.remove_made(disk, new),
         Clear => target.clear(disk, new),
-        Fit => target.fit(disk, alloc, made_of(target, new)?, other),
+        Fit => target.fit(disk, alloc, made_of(target, new)?),
+        Narrow => target.narrow(disk, alloc, made_of(target, new)?, other),
+        Clash => other.check_apart(disk, made_of(target, new)?),
         Write => target.told(disk.write(made_of(target, new)?, bytes)),
         Keep => target.told(disk.sync(made_of(target, new)?)),
         Place => target.put_in_place(disk, made_of(target, new)?),

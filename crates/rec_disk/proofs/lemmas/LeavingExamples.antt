@@ -24,7 +24,16 @@ abbrev nothing : List ℕ → Option ℕ
 nothing place = None
 
 abbrev empty : State
-empty = record { at = nothing; olds = []; bytes = λ n. []; safe = λ n. true; version = λ n. 0; held = λ n. false }
+empty = record {
+  at = nothing;
+  olds = [];
+  bytes = λ n. [];
+  safe = λ n. true;
+  version = λ n. 0;
+  held = λ n. false;
+  rights = λ n. record { owner = 0; group = 0; mode = 0 };
+  lets = record { owner = λ o. true; group = λ g. true };
+}
 
 -- file 0 is made, and then file 1, in the same folder or in another one
 abbrev one : State

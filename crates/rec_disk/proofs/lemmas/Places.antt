@@ -3,7 +3,9 @@ use Rattle.std.proofs.Common.{◌≡◌, ◌≢◌, ◌⊎◌, inl, inr, ℕ, su
 use Rattle.std.specs.Prelude.{bytes_eq, if◌then◌else◌}
 use Rattle.std.proofs.lemmas.Bool.{cond-true, cond_both}
 use Rattle.std.specs.List.{AllByRecursion}
-use Rattle.rec_disk.specs.Disk.{State, IsFresh, put, made, wrote, synced, renamed, removed, kept_in, folder_synced}
+use Rattle.rec_disk.specs.Disk.{State, IsFresh, put, made, gave, wrote, synced, renamed, removed, kept_in, folder_synced}
+use Rattle.rec_disk.specs.declared.log.Rights.{Rights}
+use Rattle.rec_disk.specs.Rights.{own_mode}
 use Rattle.rec_disk.specs.Lasting.{SomeOf, MayStand, Left, LeavesAt, shown, Spares}
 use Rattle.rec_disk.specs.proving.Places.{StaysSafe, IsSeen, Outlasts, IsSettled, Avoids, Waits}
 use Rattle.rec_disk.proofs.lemmas.Points.{set_other, set_kept, put_same, put_other, eq_bytes}
@@ -20,7 +22,7 @@ by_crash false s p x (inr none) = absurd none
 
 pub spares_itself : (p : List ℕ) (s : State) → Spares p s s
 spares_itself p s =
-    record { at = refl; may = λ x may. may; bytes = λ n may. refl; version = λ n may. refl; held = λ n may. refl; safe = λ n may e. e }
+    record { at = refl; may = λ x may. may; bytes = λ n may. refl; version = λ n may. refl; held = λ n may. refl; safe = λ n may e. e; rights = λ n may. refl; lets = refl }
 
 pub spares_then : (p : List ℕ) (s t u : State) → Spares p s t → Spares p t u → Spares p s u
 spares_then p s t u first rest = record {
@@ -30,6 +32,8 @@ spares_then p s t u first rest = record {
   version = λ n may. rest.version n may ∙ first.version n (rest.may (Some n) may);
   held = λ n may. rest.held n may ∙ first.held n (rest.may (Some n) may);
   safe = λ n may e. rest.safe n may (first.safe n (rest.may (Some n) may) e);
+  rights = λ n may. rest.rights n may ∙ first.rights n (rest.may (Some n) may);
+  lets = rest.lets ∙ first.lets;
 }
 
 pub avoids_still : (p : List ℕ) (s t : State) (n : ℕ) → Spares p s t → Avoids s p n → Avoids t p n
@@ -94,6 +98,8 @@ module _ (p : List ℕ) (s : State) where
     version = λ m may. set_other s.version n m (suc (s.version n)) (other_file n m avoids may);
     held = λ m may. refl;
     safe = λ m may e. set_other s.safe n m false (other_file n m avoids may) ∙ e;
+    rights = λ m may. refl;
+    lets = refl;
   }
 
   pub spares-synced : (n : ℕ) → Spares p s (synced s n)
@@ -104,6 +110,20 @@ module _ (p : List ℕ) (s : State) where
     version = λ m may. refl;
     held = λ m may. refl;
     safe = λ m may e. set_kept s.safe n m true refl e;
+    rights = λ m may. refl;
+    lets = refl;
+  }
+
+  pub spares-gave : (n : ℕ) (rights : Rights) → Avoids s p n → Spares p s (gave s n rights)
+  spares-gave n rights avoids = record {
+    at = refl;
+    may = λ x may. may;
+    bytes = λ m may. refl;
+    version = λ m may. refl;
+    held = λ m may. refl;
+    safe = λ m may e. e;
+    rights = λ m may. set_other s.rights n m rights (other_file n m avoids may);
+    lets = refl;
   }
 
   -- where what stands there stays, what may stand is what might before
@@ -122,6 +142,8 @@ module _ (p : List ℕ) (s : State) where
         version = λ m may. refl;
         held = λ m may. set_other s.held n m false (other_file n m (fresh_avoids n fresh) (before (Some m) may));
         safe = λ m may e. set_other s.safe n m true (other_file n m (fresh_avoids n fresh) (before (Some m) may)) ∙ e;
+        rights = λ m may. set_other s.rights n m (record (s.rights n) { mode = own_mode }) (other_file n m (fresh_avoids n fresh) (before (Some m) may));
+        lets = refl;
       }
 
   pub avoids-made : (q : List ℕ) (n : ℕ) → p ≢ q → IsFresh s n → Avoids (made s q n) p n
@@ -135,6 +157,8 @@ module _ (p : List ℕ) (s : State) where
     version = λ m may. refl;
     held = λ m may. refl;
     safe = λ m may e. e;
+    rights = λ m may. refl;
+    lets = refl;
   }
 
   pub spares-renamed : (from to : List ℕ) → p ≢ from → p ≢ to → Spares p s (renamed s from to)
@@ -147,6 +171,8 @@ module _ (p : List ℕ) (s : State) where
         version = λ m may. refl;
         held = λ m may. refl;
         safe = λ m may e. e;
+        rights = λ m may. refl;
+        lets = refl;
       }
 
   module _ (folder : List ℕ → List ℕ) (d : List ℕ) where
@@ -166,7 +192,7 @@ module _ (p : List ℕ) (s : State) where
 
     pub spares-folder_synced : Spares p s (folder_synced folder s d)
     spares-folder_synced =
-        record { at = refl; may = synced_may; bytes = λ m may. refl; version = λ m may. refl; held = λ m may. refl; safe = λ m may e. e }
+        record { at = refl; may = synced_may; bytes = λ m may. refl; version = λ m may. refl; held = λ m may. refl; safe = λ m may e. e; rights = λ m may. refl; lets = refl }
 
 -- ---- one file stands instead of another
 

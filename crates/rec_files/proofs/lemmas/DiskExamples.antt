@@ -2,6 +2,7 @@
 use Rattle.std.proofs.Common.{◌≡◌, inl, ℕ, zero, suc, Bool, true, false, List, [], ◌∷◌, length, if◌then◌else◌, Option, Some, None, ap, sym, refl, arith}
 use Rattle.std.specs.Prelude.{bytes_eq, is_some}
 use Rattle.std.proofs.lemmas.Bool.{false≢true}
+use Rattle.rec_disk.specs.declared.log.Rights.{Rights}
 use Rattle.rec_disk.specs.Disk.{State, Story, put, wrote}
 use Rattle.rec_disk.specs.Lasting.{Spares}
 use Rattle.rec_tools.specs.Home.{Write, content_of, writes_by, got, put_all, put_some}
@@ -42,6 +43,9 @@ file = 70 ∷ []
 abbrev journal : List ℕ
 journal = 74 ∷ 74 ∷ []
 
+abbrev rights : Rights
+rights = record { owner = 0; group = 0; mode = 0 }
+
 -- file 0 stands at its path
 abbrev disk : State
 disk = record {
@@ -51,6 +55,8 @@ disk = record {
   safe = λ n. true;
   version = λ n. 0;
   held = λ n. false;
+  rights = λ n. rights;
+  lets = record { owner = λ o. true; group = λ g. true };
 }
 
 -- a path is its place, and no path is a link
@@ -89,7 +95,7 @@ read = record {
     given = file;
     path = file;
     number = Some 0;
-    look = Some (Some (record { number = 0; version = 0; length = 1; is_link = false }));
+    look = Some (Some (record { number = 0; version = 0; length = 1; rights = rights; is_link = false }));
   });
   old_journal = Some (record { given = journal; path = journal; number = None; look = None });
 }
@@ -102,7 +108,7 @@ puts = record {
   short = (omega arith, (omega arith, tt));
   begins = record {
     unchanged = record {
-      file_stands = record { at = refl; seen = record { number = refl; version = refl }; led = refl };
+      file_stands = record { at = refl; seen = record { number = refl; version = refl; rights = refl }; led = refl };
       journal_stands = record { at = refl; seen = refl; led = refl };
       is_regular = tt;
     };
@@ -135,7 +141,7 @@ abbrev Noted : State → Type 0
 Noted = AreAsNoted itself read
 
 noted : Noted disk
-noted = (record { number = refl; version = refl }, refl)
+noted = (record { number = refl; version = refl; rights = refl }, refl)
 
 -- the file was written since, or a journal came to be
 rewritten : Noted (wrote disk 0 (65 ∷ [])) → ⊥
@@ -146,10 +152,10 @@ came seen = some_none 1 seen.1
 
 -- the file is read, and noted so; not where another program has locked it
 abbrev Free : State → Type 0
-Free = IsReadFree itself regular file (Some (Some (record { number = 0; version = 0; length = 1; is_link = false })))
+Free = IsReadFree itself regular file (Some (Some (record { number = 0; version = 0; length = 1; rights = rights; is_link = false })))
 
 free : Free disk
-free = record { seen = record { number = refl; version = refl }; free = λ _. refl }
+free = record { seen = record { number = refl; version = refl; rights = refl }; free = λ _. refl }
 
 held : Free (record disk { held = λ n. true }) → ⊥
 held read = false≢true (sym (read.free refl))

@@ -12,7 +12,7 @@ use Rattle.rec_disk.proofs.lemmas.Places.{spares_itself, spares_then, spares-rem
 use Rattle.rec_tools.specs.Home.{Contents}
 use Rattle.rec_tools.specs.declared.home.Which.TheVariants.{Base, Journal}
 use Rattle.rec_files.specs.Leftovers.{BeginsAsJournal}
-use Rattle.rec_files.specs.OnDisk.{Sites, CanSync, CanSyncAll, IsNext, IsRead, or_empty}
+use Rattle.rec_files.specs.OnDisk.{Sites, CanSync, CanSyncAll, IsNext, IsRead, or_empty, GivesRights}
 use Rattle.rec_files.specs.Succeeding.{AreApart, IsTold}
 use Rattle.rec_files.specs.declared.steps.Act.TheVariants.{Part, Remove, Clear}
 use Rattle.rec_files.specs.declared.steps.Step.{Step}
@@ -28,7 +28,8 @@ use Rattle.rec_files.proofs.lemmas.Recovering.{next_settled, next_spared}
 use Rattle.rec_files.proofs.lemmas.Succeeding.{stands_still}
 use Rattle.rec_files.proofs.lemmas.Playing.{made_of, IsKept, Keeps, changed, keeps_so, kept, kept_play, none_played, stepped}
 use Rattle.rec_files.proofs.lemmas.Settling.{BothSettled, Calm, CanSettleBoth, IsKeptAt, settling_steps}
-use Rattle.rec_files.proofs.lemmas.Promises.{CanLast, CanRecover, CanSucceed, Done, Four, Playing, Promised, Two, alone_steps, at_first, both_steps}
+use Rattle.rec_files.proofs.lemmas.Rights.{IsOldAt, gives_first, gives_since, gives_then, old_removed, old_then, rights_still, spared_old}
+use Rattle.rec_files.proofs.lemmas.Promises.{AreSeen, CanLast, CanRecover, CanSucceed, Done, Four, Playing, Promised, Two, alone_steps, at_first, both_steps}
 
 -- ---- what stands under the working names is removed
 
@@ -41,30 +42,41 @@ module _ (ways : Ways) (task : Task) (apart : AreApart (Four ways task)) (s0 : S
   pub record Clearing (y : Numbers) (s : State) : Type 0 where
     pub spared : (q : List ℕ) → q ≢ At.new_journal → q ≢ At.new_file → Spares q s0 s
     pub tell : (crash : Bool) → C crash → CanTell crash ways.folder At s
+    pub new_file : IsOldAt At.new_file s0 s
+    pub new_journal : IsOldAt At.new_journal s0 s
 
   -- no new file stands, or comes back
   abbrev Gone : State → Type 0
   Gone s = (crash : Bool) → C crash → IsGone crash ways.folder At s
 
   clearing_first : ((crash : Bool) → C crash → CanTell crash ways.folder At s0) → (y : Numbers) → Clearing y s0
-  clearing_first tell y = record { spared = λ q a b. spares_itself q s0; tell = tell }
+  clearing_first tell y =
+      record { spared = λ q a b. spares_itself q s0; tell = tell; new_file = λ n at. (at, (refl, refl)); new_journal = λ n at. (at, (refl, refl)) }
 
   clearing_still : (y z : Numbers) (s t : State) → Clearing y s → ((q : List ℕ) → Spares q s t) → IsSyncedSince ways.folder s t → Clearing z t
   clearing_still y z s t was spares since = record {
     spared = λ q ne_j ne_f. spares_then q s0 s t (was.spared q ne_j ne_f) (spares q);
     tell = λ crash c. tell_since crash ways.folder At (λ e. (syncs crash c e).0) s t (was.tell crash c) since;
+    new_file = old_then At.new_file s0 s t was.new_file (spared_old At.new_file s t (spares At.new_file));
+    new_journal = old_then At.new_journal s0 s t was.new_journal (spared_old At.new_journal s t (spares At.new_journal));
   }
 
   clearing_file : (y z : Numbers) (s t : State) → Clearing y s → t ≡ removed s At.new_file → Clearing z t
   clearing_file y z s t was is = record {
     spared = λ q ne_j ne_f. spares_then q s0 s t (was.spared q ne_j ne_f) (subst (Spares q s) (sym is) (spares-removed q s At.new_file ne_f));
     tell = λ crash c. tell_removing_file crash ways.folder At s t apart (was.tell crash c) (inr is);
+    new_file = old_removed At.new_file s0 s t is;
+    new_journal = old_then At.new_journal s0 s t was.new_journal
+        (spared_old At.new_journal s t (subst (Spares At.new_journal s) (sym is) (spares-removed At.new_journal s At.new_file apart.new_pair)));
   }
 
   clearing_journal : (y z : Numbers) (s t : State) → Clearing y s → Gone s → t ≡ removed s At.new_journal → Clearing z t
   clearing_journal y z s t was gone is = record {
     spared = λ q ne_j ne_f. spares_then q s0 s t (was.spared q ne_j ne_f) (subst (Spares q s) (sym is) (spares-removed q s At.new_journal ne_j));
     tell = λ crash c. tell_removing_journal crash ways.folder At s t apart (was.tell crash c) (gone crash c) (inr is);
+    new_file = old_then At.new_file s0 s t was.new_file
+        (spared_old At.new_file s t (subst (Spares At.new_file s) (sym is) (spares-removed At.new_file s At.new_journal (λ e. apart.new_pair (sym e)))));
+    new_journal = old_removed At.new_journal s0 s t is;
   }
 
   nothing_at : (s t : State) (w : List ℕ) → t ≡ removed s w → t.at w ≡ None
@@ -308,6 +320,7 @@ module _ (ways : Ways) (task : Task) (file : Option (List ℕ)) (x : Numbers) wh
       pub between : (crash : Bool) (c : Contents) → WasRead ways task file apart x a.now found crash c
           → AreSpared (Two ways task) a.now u ⊎ Between crash (Two ways task) c task.journal_bytes file u
       pub tell : (crash : Bool) → WasTold ways task file apart x a.now found crash → CanTell crash ways.folder (Four ways task) u
+      pub rights : AreSeen ways task a.now → GivesRights (Four ways task) a.now u
 
     abbrev pub IsLast : State → Type 0
     IsLast u = (crash : Bool) (c : Contents) → WasRead ways task file apart x a.now found crash c → LastAs crash (Two ways task) (unwrap_or file c.file) task.journal_bytes u
@@ -321,6 +334,9 @@ module _ (ways : Ways) (task : Task) (file : Option (List ℕ)) (x : Numbers) wh
       alone = λ none. is.spared (Four ways task).file apart.file_new_journal apart.file_new_file;
       between = λ crash c was. inl (is.spared (Four ways task).file apart.file_new_journal apart.file_new_file, is.spared (Four ways task).journal apart.journal_new_journal apart.journal_new_file);
       tell = is.tell;
+      rights = λ seen.
+          gives_then (Four ways task) a.now t (is.spared (Four ways task).file apart.file_new_journal apart.file_new_file)
+          (is.spared (Four ways task).journal apart.journal_new_journal apart.journal_new_file) is.new_file is.new_journal a.now (gives_first (Four ways task) a.now);
     }
 
     first_kept : (ok : Bool) (y : Numbers) (m : Option Story) → Plays ways task (ready x.journal) ok x y (Some a) m
@@ -337,6 +353,11 @@ module _ (ways : Ways) (task : Task) (file : Option (List ℕ)) (x : Numbers) wh
         alone = λ none. spares_then (Four ways task).file a.now b.now t (spared_file ways task file apart x a.now found y b.now is) (so.alone none);
         between = λ crash c was. inr (so.between crash c (ready_last ways task file apart x a.now found y b.now is crash c was));
         tell = λ crash was. so.tell crash (ready_recovers ways task file apart x a.now found y b.now is crash was);
+        rights = λ seen.
+            let file_kept = spared_file ways task file apart x a.now found y b.now is in
+            let journal_kept = spared_journal ways task file apart x a.now found y b.now is in
+            gives_since (Four ways task) a.now b.now file_kept journal_kept is.clearing.new_file is.clearing.new_journal t
+            (so.rights (rights_still (Four ways task).file a.now b.now file_kept ∙ seen.0, rights_still (Four ways task).journal a.now b.now journal_kept ∙ seen.1));
       }
 
       -- and what was made is removed
@@ -354,6 +375,7 @@ module _ (ways : Ways) (task : Task) (file : Option (List ℕ)) (x : Numbers) wh
             tell = λ crash was.
                 let can = ready_recovers ways task file apart x a.now found y b.now is crash was in
                 removing.tell crash (record { can = was.can; tell = so.tell crash can; own = so.own crash can });
+            rights = λ seen. gives_then (Four ways task) s t same_file same_journal removing.new_file removing.new_journal a.now (safe.rights seen);
           }
 
       removed_safe : (z w : Numbers) (done : Bool) (p n : Option Story) → Told p (Promised ways task file b.now z) → AtAnyMoment (Some b) p (λ s u. IsSafe u)

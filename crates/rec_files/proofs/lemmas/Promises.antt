@@ -2,24 +2,29 @@
 use Rattle.std.proofs.Common.{◌≡◌, ◌≢◌, ◌∙◌, inl, inr, ℕ, ◌≤◌, Bool, true, false, List, [], ◌∷◌, length, take, Option, Some, None, IfSome, IsSomeAnd, refl, sym, ap, subst}
 use Rattle.std.proofs.lemmas.Bool.{false≢true}
 use Rattle.std.specs.Prelude.{IsSome, unwrap_or}
-use Rattle.rec_disk.specs.Disk.{State, made, wrote, synced, renamed}
+use Rattle.rec_disk.specs.Disk.{State, IsGiven, made, gave, wrote, synced, renamed}
+use Rattle.rec_disk.specs.Disk.{rights_seen}
+use Rattle.rec_disk.specs.declared.log.Rights.{Rights}
+use Rattle.rec_disk.specs.Rights.{narrow}
+use Rattle.std.specs.Prelude.{option_map}
+use Rattle.std.specs.Option.{option_and_then}
 use Rattle.rec_disk.specs.Lasting.{MayStand, Spares}
 use Rattle.rec_disk.specs.proving.Places.{Avoids, Waits, IsUnmoved}
 use Rattle.rec_disk.proofs.lemmas.Calls.{avoids_unmoved}
 use Rattle.rec_disk.proofs.lemmas.Points.{set_same, set_other, put_same}
-use Rattle.rec_disk.proofs.lemmas.Places.{avoids_still, spares_itself, spares_then, spares-made, spares-synced, spares-wrote, avoids-made, outlasts_still, waits_still}
+use Rattle.rec_disk.proofs.lemmas.Places.{avoids_still, spares_itself, spares_then, spares-gave, spares-made, spares-synced, spares-wrote, avoids-made, outlasts_still, waits_still}
 use Rattle.rec_tools.specs.Home.{Contents}
 use Rattle.rec_tools.specs.declared.home.Which.{Which}
 use Rattle.rec_tools.specs.declared.home.Which.TheVariants.{Base, Journal}
 use Rattle.rec_files.specs.declared.steps.Act.{Act}
 use Rattle.rec_files.specs.Leftovers.{BeginsAsJournal, IsStopBetween}
-use Rattle.rec_files.specs.OnDisk.{Places, Sites, sites_of, CanSync, CanSyncAll}
+use Rattle.rec_files.specs.OnDisk.{Places, Sites, sites_of, CanSync, CanSyncAll, rights_at, AreLetOf, FileGets, JournalGets, IsEmptyOr, GivesRights}
 use Rattle.rec_files.specs.Succeeding.{AreApart}
-use Rattle.rec_files.specs.declared.steps.Act.TheVariants.{Make, Part, Fit, Look, Measure, Write, Keep, Place, Sync, SyncLast}
+use Rattle.rec_files.specs.declared.steps.Act.TheVariants.{Make, Part, Fit, Narrow, Clash, Look, Measure, Write, Keep, Place, Sync, SyncLast}
 use Rattle.rec_files.specs.declared.steps.Step.{Step}
 use Rattle.rec_files.specs.proving.Replacing.{BothWait, Between, HasFile, HasJournal, IsPlaced, IsPlacing, IsSyncing, LastAs, own_of}
 use Rattle.rec_files.specs.proving.Recovering.{CanTell, IsAlone, IsBeside, IsOwn, IsWriting, JournalStands, NextLasts}
-use Rattle.rec_files.specs.proving.Steps.{Ways, Side, Task, Numbers, side_of, number_of, at_of, new_of, Rests, Does, Needs, CanPlace, StepDoes, StepNeeds}
+use Rattle.rec_files.specs.proving.Steps.{Ways, Side, Task, Numbers, side_of, number_of, at_of, new_of, Rests, Does, Needs, CanPlace, StepDoes, StepNeeds, rights_of, narrow_of}
 use Rattle.rec_files.specs.proving.Steps.{of_file, of_journal, both_placed, file_written, both_written, both_made, alone_placed}
 use Rattle.rec_files.specs.proving.Steps.{alone_written, alone_made}
 use Rattle.rec_files.proofs.lemmas.Steps.{if_some_so, some_known, some_none, syncing, synced_after, placed_after}
@@ -32,6 +37,7 @@ use Rattle.rec_files.specs.Succeeding.{StandsAsSeen}
 use Rattle.rec_files.specs.proving.Succeeding.{AreFree}
 use Rattle.rec_files.proofs.lemmas.Succeeding.{stands_still}
 use Rattle.rec_files.proofs.lemmas.Playing.{Keeps, stepped, looked, changed}
+use Rattle.rec_files.proofs.lemmas.Rights.{Has, has_none, has_so, gives_first, new_there, new_then, old_new, placing_new, placing_old, spared_old, stays_so}
 
 -- a step of writing
 module _ (s : State) (n : ℕ) (bytes : List ℕ) where
@@ -53,12 +59,29 @@ module _ (s : State) (n : ℕ) (bytes : List ℕ) where
     others = λ m ne. (refl, λ e. set_other s.safe n m true ne ∙ e);
   }
 
+  pub writing-gave : (rights : Rights) → IsWriting n bytes s (gave s n rights)
+  writing-gave rights = record {
+    at = refl;
+    olds = refl;
+    held = refl;
+    written = inl (refl, λ e. e);
+    others = λ m ne. (refl, λ e. e);
+  }
+
+pub if_some_both : {X : Type 0} (x : Option X) (P Q R : X → Type 0) → ((x : X) → P x → Q x → R x) → IfSome x P → IfSome x Q → IfSome x R
+if_some_both None P Q R both p q = tt
+if_some_both (Some x) P Q R both p q = both x p q
+
 module _ (ways : Ways) (task : Task) where
   abbrev pub Four : Sites
   Four = sites_of ways.place task.file.path task.journal.path
 
   abbrev pub Two : Places
   Two = own_of Four
+
+  -- the rights of both are those that were seen
+  abbrev pub AreSeen : State → Type 0
+  AreSeen s = (rights_at s Four.file ≡ rights_of task.file) × (rights_at s Four.journal ≡ rights_of task.journal)
 
   module _ (file : Option (List ℕ)) (s0 : State) where
     -- what was there before lasts
@@ -81,6 +104,7 @@ module _ (ways : Ways) (task : Task) where
       pub between : (crash : Bool) (c : Contents) → CanLast crash c → Between crash Two c task.journal_bytes file s
       pub tell : (crash : Bool) → CanRecover crash → CanTell crash ways.folder Four s
       pub own : (crash : Bool) → CanRecover crash → IsOwn crash Four.new_file y.file s
+      pub rights : AreSeen s0 → GivesRights Four s0 s
 
     -- and after the last step
     abbrev pub Done : Numbers → State → Type 0
@@ -93,8 +117,12 @@ module _ (ways : Ways) (task : Task) where
     spared_on : (s t : State) → Spared s → ((q : List ℕ) → q ≢ Four.new_journal → q ≢ Four.new_file → Spares q s t) → Spared t
     spared_on s t spared more = λ q ne_j ne_f. spares_then q s0 s t (spared q ne_j ne_f) (more q ne_j ne_f)
 
+    -- what was made has its rights, each of the two or not yet
+    abbrev pub RightsOf : Bool → Bool → ℕ → Option ℕ → State → Type 0
+    RightsOf j f n m s = Has j (JournalGets Four s0) (s.rights n) (s.bytes n) × IfSome m (λ m. Has f (FileGets Four s0) (s.rights m) (s.bytes m))
+
     -- the new journal was made, and then the file's new one, where there is one
-    pub record AreNew (n : ℕ) (m : Option ℕ) (y : Numbers) (s : State) : Type 0 where
+    pub record AreNew (j f : Bool) (n : ℕ) (m : Option ℕ) (y : Numbers) (s : State) : Type 0 where
       pub spared : Spared s
       pub journal : s.at Four.new_journal ≡ Some n
       pub elsewhere : (q : List ℕ) → q ≢ Four.new_journal → q ≢ Four.new_file → Avoids s q n
@@ -104,6 +132,7 @@ module _ (ways : Ways) (task : Task) where
       pub file_number : y.file ≡ m
       pub beside : (crash : Bool) → CanRecover crash → IsBeside crash ways.folder Four s
       pub own : (crash : Bool) → CanRecover crash → IsOwn crash Four.new_file m s
+      pub rights : AreSeen s0 → RightsOf j f n m s
 
     module _ (apart : AreApart Four) (free : AreFree Four s0) where
       last_still : (s : State) → Spared s → (crash : Bool) (c : Contents) → CanLast crash c → LastAs crash Two c.file c.journal s
@@ -112,26 +141,39 @@ module _ (ways : Ways) (task : Task) where
           (spared Four.journal apart.journal_new_journal apart.journal_new_file) can.last
 
       unplaced : (y : Numbers) (s : State) → Spared s → ((crash : Bool) → CanRecover crash → IsBeside crash ways.folder Four s)
-          → ((crash : Bool) → CanRecover crash → IsOwn crash Four.new_file y.file s) → Promised y s
-      unplaced y s spared beside own = record {
+          → ((crash : Bool) → CanRecover crash → IsOwn crash Four.new_file y.file s) → (AreSeen s0 → GivesRights Four s0 s) → Promised y s
+      unplaced y s spared beside own rights = record {
         strangers = λ q ne_file ne_journal ne_new_file ne_new_journal. spared q ne_new_journal ne_new_file;
         alone = λ none. spared Four.file apart.file_new_journal apart.file_new_file;
         between = λ crash c can. old_between crash Two c task.journal_bytes file s (last_still s spared crash c can);
         tell = λ crash can. beside_tell crash ways.folder Four s (beside crash can);
         own = own;
+        rights = rights;
       }
 
       pub at_first : (x : Numbers) → Promised x s0
       at_first x =
           unplaced x s0 (λ q ne_j ne_f. spares_itself q s0) (λ crash can. alone_beside crash ways.folder Four s0 can.alone) (λ crash can v may. inl (can.alone.file v may))
+          (λ seen. gives_first Four s0)
 
-      pub promised : (n : ℕ) (m : Option ℕ) (y : Numbers) (s : State) → AreNew n m y s → Promised y s
-      promised n m y s is = unplaced y s is.spared is.beside (λ crash can. subst (λ own. IsOwn crash Four.new_file own s) (sym is.file_number) (is.own crash can))
+      new_gives : (j f : Bool) (n : ℕ) (m : Option ℕ) (y : Numbers) (s : State) → AreNew j f n m y s → AreSeen s0 → GivesRights Four s0 s
+      new_gives j f n m y s is seen = record {
+        file = old_new Four.file (λ r b. FileGets Four s0 r) s0 s (spared_old Four.file s0 s (is.spared Four.file apart.file_new_journal apart.file_new_file));
+        journal = old_new Four.journal (λ r b. JournalGets Four s0 r) s0 s (spared_old Four.journal s0 s (is.spared Four.journal apart.journal_new_journal apart.journal_new_file));
+        new_file = new_there Four.new_file (IsEmptyOr (FileGets Four s0)) s0 s m is.new_file
+            (if_some_so m (λ m. Has f (FileGets Four s0) (s.rights m) (s.bytes m)) (λ m. IsEmptyOr (FileGets Four s0) (s.rights m) (s.bytes m))
+            (λ m. has_so f (FileGets Four s0) (s.rights m) (s.bytes m)) (is.rights seen).1);
+        new_journal = new_there Four.new_journal (IsEmptyOr (JournalGets Four s0)) s0 s (Some n) is.journal (has_so j (JournalGets Four s0) (s.rights n) (s.bytes n) (is.rights seen).0);
+      }
+
+      pub promised : (j f : Bool) (n : ℕ) (m : Option ℕ) (y : Numbers) (s : State) → AreNew j f n m y s → Promised y s
+      promised j f n m y s is =
+          unplaced y s is.spared is.beside (λ crash can. subst (λ own. IsOwn crash Four.new_file own s) (sym is.file_number) (is.own crash can)) (new_gives j f n m y s is)
 
       -- ---- the journal's is made, and its folder is synced
 
-      alone_then : (n : ℕ) (y : Numbers) (s : State) → AreNew n None y s → (crash : Bool) → CanRecover crash → IsAlone crash Four s
-      alone_then n y s is crash can = record {
+      alone_then : (j f : Bool) (n : ℕ) (y : Numbers) (s : State) → AreNew j f n None y s → (crash : Bool) → CanRecover crash → IsAlone crash Four s
+      alone_then j f n y s is crash can = record {
         journal = (is.beside crash can).journal;
         file = λ v may. elim (is.own crash can v may) [
           | inl none ↦ none
@@ -143,8 +185,8 @@ module _ (ways : Ways) (task : Task) where
           → ((crash : Bool) → CanRecover crash → IsBeside crash ways.folder Four s) × ((crash : Bool) → CanRecover crash → IsOwn crash Four.new_file None s)
       of_alone s alone = (λ crash can. alone_beside crash ways.folder Four s (alone crash can), λ crash can v may. inl ((alone crash can).file v may))
 
-      pub journal_made : (ok : Bool) (x y : Numbers) (t : State) → x.file ≡ None → StepDoes ways task (of_journal Make) ok x y s0 t → (n : ℕ) × AreNew n None y t
-      journal_made ok x y t start (same, (n, none, fresh, is, number)) =
+      pub journal_made : (f ok : Bool) (x y : Numbers) (t : State) → x.file ≡ None → StepDoes ways task (of_journal Make) ok x y s0 t → (n : ℕ) × AreNew false f n None y t
+      journal_made f ok x y t start (same, (n, none, fresh, is, number)) =
           let spares : (q : List ℕ) → q ≢ Four.new_journal → Spares q s0 t = λ q ne. subst (Spares q s0) (sym is) (spares-made q s0 Four.new_journal n ne fresh) in
           let new_file = spares Four.new_file (λ e. apart.new_pair (sym e)) in
           let alone = of_alone t (λ crash can. alone_making crash Four s0 t can.alone new_file (inr (n, fresh, is))) in (
@@ -159,16 +201,18 @@ module _ (ways : Ways) (task : Task) where
               file_number = same ∙ start;
               beside = alone.0;
               own = alone.1;
+              rights = λ seen. (has_none (JournalGets Four s0) s0 t Four.new_journal n is, tt);
             },
           )
 
-      pub journal_synced : (n : ℕ) (y : Numbers) (s t : State) → AreNew n None y s → IsSyncing ways.folder ways.syncs (ways.folder Four.journal) s t → AreNew n None y t
-      journal_synced n y s t is step =
+      pub journal_synced : (f : Bool) (n : ℕ) (y : Numbers) (s t : State) → AreNew false f n None y s → IsSyncing ways.folder ways.syncs (ways.folder Four.journal) s t → AreNew false f n None y t
+      journal_synced f n y s t is step =
           let spares : (q : List ℕ) → Spares q s t = λ q. syncing q ways.folder ways.syncs (ways.folder Four.journal) s t step in
-          let alone = of_alone t (λ crash can. alone_spared crash Four s t (alone_then n y s is crash can) (spares Four.new_file) (spares Four.new_journal)) in
+          let alone = of_alone t (λ crash can. alone_spared crash Four s t (alone_then false f n y s is crash can) (spares Four.new_file) (spares Four.new_journal)) in
+          let at : t.at Four.new_journal ≡ Some n = (spares Four.new_journal).at ∙ is.journal in
           record {
             spared = spared_on s t is.spared (λ q ne_j ne_f. spares q);
-            journal = (spares Four.new_journal).at ∙ is.journal;
+            journal = at;
             elsewhere = λ q ne_j ne_f. avoids_still q s t n (spares q) (is.elsewhere q ne_j ne_f);
             new_file = (spares Four.new_file).at ∙ is.new_file;
             file_elsewhere = tt;
@@ -176,16 +220,17 @@ module _ (ways : Ways) (task : Task) where
             file_number = is.file_number;
             beside = alone.0;
             own = alone.1;
+            rights = λ seen. (stays_so (Has false (JournalGets Four s0)) s t n (spared_old Four.new_journal s t (spares Four.new_journal) n at).1 (is.rights seen).0, tt);
           }
 
       abbrev pub Stands : State → Type 0
       Stands s = (crash : Bool) → CanRecover crash → JournalStands crash ways.folder Four s
 
-      pub stands_one : (n : ℕ) (x : Numbers) (s : State) → ways.folder Four.journal ≡ ways.folder Four.file → AreNew n None x s → Stands s
-      stands_one n x s one is crash can = record { now = subst IsSome (sym is.journal) refl; left = λ ne y may. absurd (ne (sym one)) }
+      pub stands_one : (f : Bool) (n : ℕ) (x : Numbers) (s : State) → ways.folder Four.journal ≡ ways.folder Four.file → AreNew false f n None x s → Stands s
+      stands_one f n x s one is crash can = record { now = subst IsSome (sym is.journal) refl; left = λ ne y may. absurd (ne (sym one)) }
 
-      pub stands_synced : (n : ℕ) (y : Numbers) (s t : State) → IsSyncing ways.folder ways.syncs (ways.folder Four.journal) s t → AreNew n None y t → Stands t
-      stands_synced n y s t step is crash can = record {
+      pub stands_synced : (f : Bool) (n : ℕ) (y : Numbers) (s t : State) → IsSyncing ways.folder ways.syncs (ways.folder Four.journal) s t → AreNew false f n None y t → Stands t
+      stands_synced f n y s t step is crash can = record {
         now = subst IsSome (sym is.journal) refl;
         left = λ ne y may. subst IsSome (sym (stands_now crash ways.folder Four.new_journal (ways.folder Four.journal) (λ e. (can.can e).0.1) t y
             (in_synced ways.folder crash ways.syncs (ways.folder Four.journal) s t (λ e. (can.can e).1.1) step) may ∙ is.journal)) refl;
@@ -193,29 +238,36 @@ module _ (ways : Ways) (task : Task) where
 
       -- ---- the file's is made
 
-      pub both_made_then : (n : ℕ) (ok : Bool) (x y : Numbers) (s t : State) → AreNew n None x s → Stands s → StepDoes ways task (of_file Make) ok x y s t → (m : ℕ) × AreNew n (Some m) y t
+      pub both_made_then : (n : ℕ) (ok : Bool) (x y : Numbers) (s t : State) → AreNew false false n None x s → Stands s → StepDoes ways task (of_file Make) ok x y s t
+          → (m : ℕ) × AreNew false false n (Some m) y t
       both_made_then n ok x y s t was stands (same, (m, none, fresh, is, number)) =
           let spares : (q : List ℕ) → q ≢ Four.new_file → Spares q s t = λ q ne. subst (Spares q s) (sym is) (spares-made q s Four.new_file m ne fresh) in
-          let at : t.at Four.new_file ≡ Some m = ap (λ (u : State). u.at Four.new_file) is ∙ put_same s.at Four.new_file Four.new_file (Some m) refl in (
+          let at : t.at Four.new_file ≡ Some m = ap (λ (u : State). u.at Four.new_file) is ∙ put_same s.at Four.new_file Four.new_file (Some m) refl in
+          let journal : t.at Four.new_journal ≡ Some n = (spares Four.new_journal apart.new_pair).at ∙ was.journal in (
             m,
             record {
               spared = spared_on s t was.spared (λ q ne_j ne_f. spares q ne_f);
-              journal = (spares Four.new_journal apart.new_pair).at ∙ was.journal;
+              journal = journal;
               elsewhere = λ q ne_j ne_f. avoids_still q s t n (spares q ne_f) (was.elsewhere q ne_j ne_f);
               new_file = at;
               file_elsewhere = λ q ne. subst (λ (u : State). MayStand true u q (Some m) → ⊥) (sym is) (avoids-made q s Four.new_file m ne fresh);
               journal_number = same ∙ was.journal_number;
               file_number = number;
-              beside = λ crash can. beside_making crash ways.folder Four s t apart (alone_then n x s was crash can) (stands crash can) (spares Four.new_journal apart.new_pair) (inr (m, fresh, is));
+              beside = λ crash can. beside_making crash ways.folder Four s t apart (alone_then false false n x s was crash can) (stands crash can) (spares Four.new_journal apart.new_pair)
+                  (inr (m, fresh, is));
               own = λ crash can. subst (λ own. IsOwn crash Four.new_file own t) at (own_making crash Four.new_file s t (was.own crash can) (inr (m, fresh, is)));
+              rights = λ seen. (
+                stays_so (Has false (JournalGets Four s0)) s t n (spared_old Four.new_journal s t (spares Four.new_journal apart.new_pair) n journal).1 (was.rights seen).0,
+                has_none (FileGets Four s0) s t Four.new_file m is,
+              );
             },
           )
 
       -- ---- what was made is written
 
-      filling : (n : ℕ) (m : Option ℕ) (y : Numbers) (s t : State) → AreNew n m y s → IsUnmoved s t → ((q : List ℕ) → q ≢ Four.new_journal → q ≢ Four.new_file → Spares q s t)
-          → ((crash : Bool) → CanRecover crash → IsBeside crash ways.folder Four t) → AreNew n m y t
-      filling n m y s t was still spares beside = record {
+      filling : (j f h g : Bool) (n : ℕ) (m : Option ℕ) (y : Numbers) (s t : State) → AreNew j f n m y s → IsUnmoved s t → ((q : List ℕ) → q ≢ Four.new_journal → q ≢ Four.new_file → Spares q s t)
+          → ((crash : Bool) → CanRecover crash → IsBeside crash ways.folder Four t) → (AreSeen s0 → RightsOf h g n m t) → AreNew h g n m y t
+      filling j f h g n m y s t was still spares beside rights = record {
         spared = spared_on s t was.spared spares;
         journal = ap (λ (at : List ℕ → Option ℕ). at Four.new_journal) still.at ∙ was.journal;
         elsewhere = λ q ne_j ne_f. avoids_unmoved q n s t still (was.elsewhere q ne_j ne_f);
@@ -226,32 +278,106 @@ module _ (ways : Ways) (task : Task) where
         file_number = was.file_number;
         beside = beside;
         own = λ crash can. own_unmoved crash ways.folder Four m s t (was.own crash can) still.at still.olds;
+        rights = rights;
       }
 
-      pub wrote_journal : (n : ℕ) (m : Option ℕ) (y : Numbers) (s t : State) (k : ℕ) → t ≡ wrote s n (take k task.journal_bytes) → AreNew n m y s → AreNew n m y t
+      -- ---- it is given its rights
+
+      still_new : (j f h g : Bool) (n : ℕ) (m : Option ℕ) (y : Numbers) (s : State) → AreNew j f n m y s → (AreSeen s0 → RightsOf h g n m s) → AreNew h g n m y s
+      still_new j f h g n m y s was =
+          filling j f h g n m y s s was (record { at = refl; olds = refl }) (λ q ne_j ne_f. spares_itself q s) was.beside
+
+      lets_same : (j f : Bool) (n : ℕ) (m : Option ℕ) (y : Numbers) (s : State) → AreNew j f n m y s → s.lets ≡ s0.lets
+      lets_same j f n m y s was = (was.spared Four.file apart.file_new_journal apart.file_new_file).lets
+
+      gave_file : (given : Bool) (n m : ℕ) (y : Numbers) (s : State) (r : Rights) → AreNew false false n (Some m) y s → (AreSeen s0 → Has given (FileGets Four s0) r (s.bytes m))
+          → AreNew false given n (Some m) y (gave s m r)
+      gave_file given n m y s r was gets =
+          let spares : (q : List ℕ) → q ≢ Four.new_file → Spares q s (gave s m r) = λ q ne. spares-gave q s m r (was.file_elsewhere q ne) in
+          filling false false false given n (Some m) y s (gave s m r) was (record { at = refl; olds = refl }) (λ q ne_j ne_f. spares q ne_f)
+          (λ crash can. beside_file_written crash ways.folder Four m [] s (gave s m r) (was.beside crash can) (spares Four.new_journal apart.new_pair) (writing-gave s m [] r))
+          (λ seen. (
+            stays_so (Has false (JournalGets Four s0)) s (gave s m r) n (spared_old Four.new_journal s (gave s m r) (spares Four.new_journal apart.new_pair) n was.journal).1 (was.rights seen).0,
+            subst (λ r. Has given (FileGets Four s0) r (s.bytes m)) (sym (set_same s.rights m m r refl)) (gets seen),
+          ))
+
+      gave_journal : (given : Bool) (n : ℕ) (m : Option ℕ) (y : Numbers) (s : State) (r : Rights) → AreNew false true n m y s → (AreSeen s0 → Has given (JournalGets Four s0) r (s.bytes n))
+          → AreNew given true n m y (gave s n r)
+      gave_journal given n m y s r was gets =
+          filling false true given true n m y s (gave s n r) was (record { at = refl; olds = refl }) (λ q ne_j ne_f. spares-gave q s n r (was.elsewhere q ne_j ne_f))
+          (λ crash can. beside_journal_written crash ways.folder Four n task.journal_bytes s (gave s n r) can.begins can.short (was.beside crash can) (writing-gave s n task.journal_bytes r))
+          (λ seen. (
+            subst (λ r. Has given (JournalGets Four s0) r (s.bytes n)) (sym (set_same s.rights n n r refl)) (gets seen),
+            if_some_both m (λ m. (q : List ℕ) → q ≢ Four.new_file → Avoids s q m) (λ m. FileGets Four s0 (s.rights m)) (λ m. FileGets Four s0 ((gave s n r).rights m))
+                (λ m elsewhere has. subst (FileGets Four s0) (sym (set_other s.rights n m r (λ e. elsewhere Four.new_journal apart.new_pair (inl (ap Some e ∙ sym was.journal))))) has)
+                was.file_elsewhere (was.rights seen).1,
+          ))
+
+      pub file_fitted : (ok : Bool) (n m : ℕ) (y : Numbers) (s t : State) → AreNew false false n (Some m) y s → IsGiven m (rights_of task.file) ok s t → AreNew false ok n (Some m) y t
+      file_fitted true n m y s t was (r, let_so, is) =
+          subst (AreNew false true n (Some m) y) (sym is)
+          (gave_file true n m y s r was (λ seen. subst (λ w. AreLetOf s0.lets w r) (sym seen.0) (subst (λ l. AreLetOf l (rights_of task.file) r) (lets_same false false n (Some m) y s was) let_so)))
+      file_fitted false n m y s t was (r, mode, is) =
+          subst (AreNew false false n (Some m) y) (sym is)
+          (gave_file false n m y s r was (λ seen. (mode ∙ (was.rights seen).1.0, (was.rights seen).1.1)))
+
+      wanted : AreSeen s0 → narrow_of task.file task.journal ≡ option_map (λ model. narrow model (rights_at s0 Four.journal)) (rights_at s0 Four.file)
+      wanted seen =
+          ap (λ older. option_map (λ model. narrow model older) (rights_of task.file)) (sym seen.1)
+          ∙ ap (λ file. option_map (λ model. narrow model (rights_at s0 Four.journal)) file) (sym seen.0)
+
+      pub journal_fitted : (ok : Bool) (n : ℕ) (m : Option ℕ) (y : Numbers) (s t : State) → AreNew false true n m y s → IsGiven n (narrow_of task.file task.journal) ok s t → AreNew ok true n m y t
+      journal_fitted true n m y s t was (r, let_so, is) =
+          subst (AreNew true true n m y) (sym is)
+          (gave_journal true n m y s r was
+          (λ seen. subst (λ w. AreLetOf s0.lets w r) (wanted seen) (subst (λ l. AreLetOf l (narrow_of task.file task.journal) r) (lets_same false true n m y s was) let_so)))
+      journal_fitted false n m y s t was (r, mode, is) =
+          subst (AreNew false true n m y) (sym is)
+          (gave_journal false n m y s r was (λ seen. (mode ∙ (was.rights seen).0.0, (was.rights seen).0.1)))
+
+      -- nothing is wanted where no file was read
+      no_rights : task.file.look ≡ None → AreSeen s0 → rights_at s0 Four.file ≡ None
+      no_rights none seen = seen.0 ∙ ap (λ look. option_and_then rights_seen look) none
+
+      pub file_unread : (n m : ℕ) (y : Numbers) (s : State) → task.file.look ≡ None → AreNew false false n (Some m) y s → AreNew false true n (Some m) y s
+      file_unread n m y s none was =
+          still_new false false false true n (Some m) y s was
+          (λ seen. ((was.rights seen).0, subst (λ w. AreLetOf s0.lets w (s.rights m)) (sym (no_rights none seen)) tt))
+
+      pub journal_unread : (n : ℕ) (m : Option ℕ) (y : Numbers) (s : State) → task.file.look ≡ None → AreNew false true n m y s → AreNew true true n m y s
+      journal_unread n m y s none was =
+          still_new false true true true n m y s was
+          (λ seen. (
+            subst (λ w. AreLetOf s0.lets (option_map (λ model. narrow model (rights_at s0 Four.journal)) w) (s.rights n)) (sym (no_rights none seen)) tt,
+            (was.rights seen).1,
+          ))
+
+      pub wrote_journal : (n : ℕ) (m : Option ℕ) (y : Numbers) (s t : State) (k : ℕ) → t ≡ wrote s n (take k task.journal_bytes) → AreNew true true n m y s → AreNew true true n m y t
       wrote_journal n m y s t k is was =
-          subst (AreNew n m y) (sym is)
-          (filling n m y s (wrote s n (take k task.journal_bytes)) was (record { at = refl; olds = refl })
+          subst (AreNew true true n m y) (sym is)
+          (filling true true true true n m y s (wrote s n (take k task.journal_bytes)) was (record { at = refl; olds = refl })
           (λ q ne_j ne_f. spares-wrote q s n (take k task.journal_bytes) (was.elsewhere q ne_j ne_f))
           (λ crash can. beside_journal_written crash ways.folder Four n task.journal_bytes s (wrote s n (take k task.journal_bytes)) can.begins can.short (was.beside crash can)
-          (writing-wrote s n task.journal_bytes k)))
+          (writing-wrote s n task.journal_bytes k)) was.rights)
 
-      pub kept_journal : (n : ℕ) (m : Option ℕ) (y : Numbers) (s t : State) → t ≡ synced s n → AreNew n m y s → AreNew n m y t
+      pub kept_journal : (n : ℕ) (m : Option ℕ) (y : Numbers) (s t : State) → t ≡ synced s n → AreNew true true n m y s → AreNew true true n m y t
       kept_journal n m y s t is was =
-          subst (AreNew n m y) (sym is)
-          (filling n m y s (synced s n) was (record { at = refl; olds = refl }) (λ q ne_j ne_f. spares-synced q s n)
-          (λ crash can. beside_journal_written crash ways.folder Four n task.journal_bytes s (synced s n) can.begins can.short (was.beside crash can) (writing-synced s n task.journal_bytes)))
+          subst (AreNew true true n m y) (sym is)
+          (filling true true true true n m y s (synced s n) was (record { at = refl; olds = refl }) (λ q ne_j ne_f. spares-synced q s n)
+          (λ crash can. beside_journal_written crash ways.folder Four n task.journal_bytes s (synced s n) can.begins can.short (was.beside crash can)
+          (writing-synced s n task.journal_bytes)) was.rights)
 
       -- the file's, while the journal's waits
       pub record FileFilling (n m : ℕ) (y : Numbers) (s : State) : Type 0 where
-        pub made : AreNew n (Some m) y s
+        pub made : AreNew true true n (Some m) y s
         pub waits : Waits s Four.new_journal task.journal_bytes
 
       file_filling : (n m : ℕ) (y : Numbers) (s t : State) → FileFilling n m y s → IsUnmoved s t → IsWriting m task.file_bytes s t → ((q : List ℕ) → q ≢ Four.new_file → Spares q s t)
-          → FileFilling n m y t
-      file_filling n m y s t was still writing spares = record {
-        made = filling n (Some m) y s t was.made still (λ q ne_j ne_f. spares q ne_f)
-            (λ crash can. beside_file_written crash ways.folder Four m task.file_bytes s t (was.made.beside crash can) (spares Four.new_journal apart.new_pair) writing);
+          → t.rights ≡ s.rights → FileFilling n m y t
+      file_filling n m y s t was still writing spares same = record {
+        made = filling true true true true n (Some m) y s t was.made still (λ q ne_j ne_f. spares q ne_f)
+            (λ crash can. beside_file_written crash ways.folder Four m task.file_bytes s t (was.made.beside crash can) (spares Four.new_journal apart.new_pair) writing)
+            (λ seen. subst (λ (rights : ℕ → Rights). JournalGets Four s0 (rights n) × FileGets Four s0 (rights m)) (sym same) (was.made.rights seen));
         waits = waits_still Four.new_journal task.journal_bytes s t (spares Four.new_journal apart.new_pair) was.waits;
       }
 
@@ -259,16 +385,16 @@ module _ (ways : Ways) (task : Task) where
       wrote_file n m y s t k is was =
           subst (FileFilling n m y) (sym is)
           (file_filling n m y s (wrote s m (take k task.file_bytes)) was (record { at = refl; olds = refl }) (writing-wrote s m task.file_bytes k)
-          (λ q ne. spares-wrote q s m (take k task.file_bytes) (was.made.file_elsewhere q ne)))
+          (λ q ne. spares-wrote q s m (take k task.file_bytes) (was.made.file_elsewhere q ne)) refl)
 
       pub kept_file : (n m : ℕ) (y : Numbers) (s t : State) → t ≡ synced s m → FileFilling n m y s → FileFilling n m y t
       kept_file n m y s t is was =
           subst (FileFilling n m y) (sym is)
-          (file_filling n m y s (synced s m) was (record { at = refl; olds = refl }) (writing-synced s m task.file_bytes) (λ q ne. spares-synced q s m))
+          (file_filling n m y s (synced s m) was (record { at = refl; olds = refl }) (writing-synced s m task.file_bytes) (λ q ne. spares-synced q s m) refl)
 
       -- ---- the journal waits, and is put in place
 
-      module _ (n : ℕ) (m : Option ℕ) (x : Numbers) (r : State) (was : AreNew n m x r) (waits : Waits r Four.new_journal task.journal_bytes) where
+      module _ (n : ℕ) (m : Option ℕ) (x : Numbers) (r : State) (was : AreNew true true n m x r) (waits : Waits r Four.new_journal task.journal_bytes) where
         abbrev pub PlacingJournal : State → Type 0
         PlacingJournal u = IsPlacing ways.folder Four.new_journal Four.journal r u
 
@@ -281,6 +407,16 @@ module _ (ways : Ways) (task : Task) where
         pub spares_file : (u : State) → PlacingJournal u → Spares Four.file r u
         spares_file u placing = spares_journal u placing Four.file apart.file_new_journal (λ e. apart.pair (sym e))
 
+        journal_placing_gives : (u : State) → PlacingJournal u → AreSeen s0 → GivesRights Four s0 u
+        journal_placing_gives u placing seen =
+            let gives = new_gives true true n m x r was seen in
+            record {
+              file = new_then Four.file (λ r b. FileGets Four s0 r) s0 r u gives.file (spared_old Four.file r u (spares_file u placing));
+              journal = placing_new ways.folder Four.new_journal Four.journal (λ r b. JournalGets Four s0 r) s0 r u (Some n) placing gives.journal was.journal (was.rights seen).0;
+              new_file = new_then Four.new_file (IsEmptyOr (FileGets Four s0)) s0 r u gives.new_file (spared_old Four.new_file r u (spares_new_file u placing));
+              new_journal = placing_old ways.folder Four.new_journal Four.journal (IsEmptyOr (JournalGets Four s0)) s0 r u (λ e. apart.journal_new_journal (sym e)) placing gives.new_journal;
+            }
+
         pub journal_placing_promised : ((u : State) → PlacingJournal u → (crash : Bool) → CanRecover crash → CanTell crash ways.folder Four u) → (u : State) → PlacingJournal u → Promised x u
         journal_placing_promised tell u placing = record {
           strangers = λ q ne_file ne_journal ne_new_file ne_new_journal.
@@ -290,6 +426,7 @@ module _ (ways : Ways) (task : Task) where
               (journal_placing ways.folder ways.syncs crash Four c task.journal_bytes task.file_bytes apart can.can r u (last_still r was.spared crash c can) waits placing);
           tell = tell u placing;
           own = λ crash can. subst (λ own. IsOwn crash Four.new_file own u) (sym was.file_number) (own_spared crash ways.folder Four m r u (was.own crash can) (spares_new_file u placing));
+          rights = λ seen. journal_placing_gives u placing seen;
         }
 
         pub journal_last : (u : State) → IsPlaced ways.folder ways.syncs Four.new_journal Four.journal r u → (crash : Bool) (c : Contents) → CanLast crash c
@@ -337,7 +474,7 @@ module _ (ways : Ways) (task : Task) (file : Option (List ℕ)) (s0 : State) (ap
   Playing = Keeps ways task Can P Q
 
   abbrev New : ℕ → Option ℕ → Numbers → State → Type 0
-  New = AreNew ways task file s0
+  New = AreNew ways task file s0 true true
 
   file_stands : (s : State) → Spared ways task file s0 s → Can → StandsAsSeen ways.place ways.leads task.file s
   file_stands s spared can = stands_still ways.place ways.leads task.file s0 s (spared (Four ways task).file apart.file_new_journal apart.file_new_file) can.file_stands
@@ -346,21 +483,21 @@ module _ (ways : Ways) (task : Task) (file : Option (List ℕ)) (s0 : State) (ap
   journal_stands s spared can = stands_still ways.place ways.leads task.journal s0 s (spared (Four ways task).journal apart.journal_new_journal apart.journal_new_file) can.journal_stands
 
   -- the journal's is made first, and its folder is synced
-  first_steps : (rest : List Step) → ((n : ℕ) (x : Numbers) (s : State) → New n None x s → Stands ways task file s0 apart free s → Playing rest x s) → (x : Numbers) → x.file ≡ None
-      → Playing (of_journal Make ∷ of_journal Part ∷ rest) x s0
-  first_steps rest then x start =
-      let made : (ok : Bool) (y : Numbers) (t : State) → StepDoes ways task (of_journal Make) ok x y s0 t → (n : ℕ) × New n None y t = λ ok y t does.
-      journal_made ways task file s0 apart free ok x y t start does in
+  first_steps : (f : Bool) (rest : List Step) → ((n : ℕ) (x : Numbers) (s : State) → AreNew ways task file s0 false f n None x s → Stands ways task file s0 apart free s → Playing rest x s)
+      → (x : Numbers) → x.file ≡ None → Playing (of_journal Make ∷ of_journal Part ∷ rest) x s0
+  first_steps f rest then x start =
+      let made : (ok : Bool) (y : Numbers) (t : State) → StepDoes ways task (of_journal Make) ok x y s0 t → (n : ℕ) × AreNew ways task file s0 false f n None y t = λ ok y t does.
+      journal_made ways task file s0 apart free f ok x y t start does in
       stepped ways task Can P Q Journal Make (of_journal Part ∷ rest) x s0 (λ can. free.journal) (λ never. never_rests (Playing (of_journal Part ∷ rest) x s0) never)
-      (λ ok y t does. promised ways task file s0 apart free (made ok y t does).0 None y t (made ok y t does).1)
+      (λ ok y t does. promised ways task file s0 apart free false f (made ok y t does).0 None y t (made ok y t does).1)
       (λ y t does.
       let (n, was) = made true y t does in
       changed ways task Can P Q Journal Part rest y t (λ ok u. IsSyncing ways.folder ways.syncs (ways.folder (Four ways task).journal) t u) (λ can. tt) (λ ok z u does. does)
-      (λ one. then n y t was (stands_one ways task file s0 apart free n y t (one refl) was))
-      (λ ok u step. promised ways task file s0 apart free n None y u (journal_synced ways task file s0 apart free n y t u was step))
+      (λ one. then n y t was (stands_one ways task file s0 apart free f n y t (one refl) was))
+      (λ ok u step. promised ways task file s0 apart free false f n None y u (journal_synced ways task file s0 apart free f n y t u was step))
       (λ u step.
-      let is = journal_synced ways task file s0 apart free n y t u was step in
-      then n y u is (stands_synced ways task file s0 apart free n y t u step is)))
+      let is = journal_synced ways task file s0 apart free f n y t u was step in
+      then n y u is (stands_synced ways task file s0 apart free f n y t u step is)))
 
   module _ (which : Which) where
     abbrev Now : Act → Step
@@ -414,11 +551,15 @@ module _ (ways : Ways) (task : Task) (file : Option (List ℕ)) (s0 : State) (ap
       → ((ok : Bool) (y : Numbers) (t : State) → StepDoes ways task (record { 0 = which; 1 = act }) ok x y s t → ⊥) → Playing rest x s → Playing (record { 0 = which; 1 = act } ∷ rest) x s
   looks = looked ways task Can P Q
 
-  fits_journal : (n : ℕ) (m : Option ℕ) (rest : List Step) (x : Numbers) (s : State) → New n m x s → Playing rest x s → Playing (of_journal Fit ∷ rest) x s
-  fits_journal n m rest x s was =
-      looks Journal Fit rest x s
-      (λ can. named (λ n. s.at (Four ways task).file ≢ Some n) x.journal n was.journal_number (λ e. was.elsewhere (Four ways task).file apart.file_new_journal apart.file_new_file (inl (sym e))))
-      (λ ok y t never. never.1)
+  fits_journal : (n : ℕ) (m : Option ℕ) (rest : List Step) (x : Numbers) (s : State) → AreNew ways task file s0 false true n m x s → ((t : State) → New n m x t → Playing rest x t)
+      → Playing (of_journal Narrow ∷ rest) x s
+  fits_journal n m rest x s was then =
+      let Given : Bool → State → ℕ → Type 0 = λ ok t n. IsGiven n (narrow_of task.file task.journal) ok s t in
+      let after : (ok : Bool) (t : State) → IsSomeAnd x.journal (Given ok t) → AreNew ways task file s0 ok true n m x t = λ ok t is.
+      journal_fitted ways task file s0 apart free ok n m x s t was (some_known x.journal n (Given ok t) was.journal_number is) in
+      changed ways task Can P Q Journal Narrow rest x s (λ ok t. IsSomeAnd x.journal (Given ok t)) (λ can. subst IsSome (sym was.journal_number) refl) (λ ok y t does. does)
+      (λ none. then s (journal_unread ways task file s0 apart free n m x s (none refl) was)) (λ ok t is. promised ways task file s0 apart free ok true n m x t (after ok t is))
+      (λ t is. then t (after true t is))
 
   looks_at_file : (n : ℕ) (m : Option ℕ) (rest : List Step) (x : Numbers) (s : State) → New n m x s → Playing rest x s → Playing (of_file Look ∷ rest) x s
   looks_at_file n m rest x s was =
@@ -431,7 +572,7 @@ module _ (ways : Ways) (task : Task) (file : Option (List ℕ)) (s0 : State) (ap
   journal_filled : (n : ℕ) (m : Option ℕ) (rest : List Step) → ((x : Numbers) (s : State) → New n m x s → Waits s (Four ways task).new_journal task.journal_bytes → Playing rest x s) → (x : Numbers)
       (s : State) → New n m x s → Playing (of_journal Write ∷ of_journal Keep ∷ rest) x s
   journal_filled n m rest then =
-      filled Journal (New n m) n (λ y t is. is.journal_number) (promised ways task file s0 apart free n m) (wrote_journal ways task file s0 apart free n m)
+      filled Journal (New n m) n (λ y t is. is.journal_number) (promised ways task file s0 apart free true true n m) (wrote_journal ways task file s0 apart free n m)
       (kept_journal ways task file s0 apart free n m) rest (λ y t now held safe. then y t now (record { n = n; at = now.journal; is = held; safe = safe }))
 
   -- ---- the journal is put in place
@@ -458,7 +599,7 @@ module _ (ways : Ways) (task : Task) (s0 : State) (apart : AreApart (Four ways t
   File = Some task.file_bytes
 
   abbrev Both : ℕ → ℕ → Numbers → State → Type 0
-  Both n m = AreNew ways task File s0 n (Some m)
+  Both n m = AreNew ways task File s0 true true n (Some m)
 
   abbrev Plays : List Step → Numbers → State → Type 0
   Plays = Playing ways task File s0 apart free
@@ -494,6 +635,20 @@ module _ (ways : Ways) (task : Task) (s0 : State) (apart : AreApart (Four ways t
       file_waits : Waits v At.new_file task.file_bytes
       file_waits = waits_still At.new_file task.file_bytes r v new_file_spared waits.file
 
+      file_placed_gives : (u : State) → IsPlacing ways.folder At.new_file At.file v u → AreSeen ways task s0 → GivesRights At s0 u
+      file_placed_gives u again seen =
+          let gives = now.rights seen in
+          let at : v.at At.new_file ≡ Some m = new_file_spared.at ∙ was.new_file in
+          let has = stays_so (λ r b. FileGets At s0 r) r v m (spared_old At.new_file r v new_file_spared m at).1 (was.rights seen).1 in
+          let spared : (q : List ℕ) → q ≢ At.new_file → q ≢ At.file → Spares q v u = λ q ne_new ne. spares-placing ways.folder At.new_file At.file v q u ne_new ne again in
+          record {
+            file = placing_new ways.folder At.new_file At.file (λ r b. FileGets At s0 r) s0 v u (Some m) again gives.file at has;
+            journal = new_then At.journal (λ r b. JournalGets At s0 r) s0 v u gives.journal (spared_old At.journal v u (spared At.journal apart.journal_new_file apart.pair));
+            new_file = placing_old ways.folder At.new_file At.file (IsEmptyOr (FileGets At s0)) s0 v u (λ e. apart.file_new_file (sym e)) again gives.new_file;
+            new_journal = new_then At.new_journal (IsEmptyOr (JournalGets At s0)) s0 v u gives.new_journal
+                (spared_old At.new_journal v u (spared At.new_journal apart.new_pair (λ e. apart.file_new_journal (sym e))));
+          }
+
       file_placed_promised : (u : State) → IsPlacing ways.folder At.new_file At.file v u → Promised ways task File s0 x u
       file_placed_promised u again = record {
         strangers = λ q ne_file ne_journal ne_new_file ne_new_journal.
@@ -502,6 +657,7 @@ module _ (ways : Ways) (task : Task) (s0 : State) (apart : AreApart (Four ways t
         between = λ crash c can. inr (file_placing ways.folder ways.syncs crash At c task.journal_bytes task.file_bytes apart can.can v u (last_then crash c can) file_waits again);
         tell = λ crash can. tell_placing_file crash ways.folder At (λ e. (can.can e).0) v u apart (now.tell crash can) again;
         own = λ crash can. own_placing_file crash ways.folder At (λ e. (can.can e).0) x.file v u apart (now.own crash can) again;
+        rights = λ seen. file_placed_gives u again seen;
       }
 
       file_steps : Plays (of_file Place ∷ of_file SyncLast ∷ []) x v
@@ -524,7 +680,8 @@ module _ (ways : Ways) (task : Task) (s0 : State) (apart : AreApart (Four ways t
   file_filled : (n m : ℕ) (x : Numbers) (s : State) → Both n m x s → Waits s At.new_journal task.journal_bytes → Plays file_written x s
   file_filled n m x s was waits =
       filled ways task File s0 apart free Base (FileFilling ways task File s0 apart free n m) m (λ y t is. is.made.file_number)
-      (λ y t is. promised ways task File s0 apart free n (Some m) y t is.made) (wrote_file ways task File s0 apart free n m) (kept_file ways task File s0 apart free n m) (of_file Look ∷ both_placed)
+      (λ y t is. promised ways task File s0 apart free true true n (Some m) y t is.made) (wrote_file ways task File s0 apart free n m) (kept_file ways task File s0 apart free n m)
+      (of_file Look ∷ both_placed)
       (λ y t now held safe.
       looks_at_file ways task File s0 apart free n (Some m) both_placed y t now.made
       (place_steps n m y t now.made (record { journal = now.waits; file = record { n = m; at = now.made.new_file; is = held; safe = safe } })))
@@ -535,21 +692,34 @@ module _ (ways : Ways) (task : Task) (s0 : State) (apart : AreApart (Four ways t
       journal_filled ways task File s0 apart free n (Some m) (of_file Measure ∷ file_written)
       (λ x s was waits. looks ways task File s0 apart free Base Measure file_written x s (λ can. can.short) (λ ok y t never. never.1) (file_filled n m x s was waits))
 
-  fitted : (n m : ℕ) (x : Numbers) (s : State) → Both n m x s → Plays (of_file Fit ∷ of_journal Fit ∷ both_written) x s
-  fitted n m x s was =
-      looks ways task File s0 apart free Base Fit (of_journal Fit ∷ both_written) x s
+  abbrev Made : Bool → ℕ → ℕ → Numbers → State → Type 0
+  Made f n m = AreNew ways task File s0 false f n (Some m)
+
+  apart_then : (n m : ℕ) (x : Numbers) (s : State) → Made true n m x s → Plays (of_file Clash ∷ of_journal Narrow ∷ both_written) x s
+  apart_then n m x s was =
+      looks ways task File s0 apart free Base Clash (of_journal Narrow ∷ both_written) x s
       (λ can. named (λ m. s.at At.journal ≢ Some m) x.file m was.file_number (λ e. was.file_elsewhere At.journal apart.journal_new_file (inl (sym e)))) (λ ok y t never. never.1)
-      (fits_journal ways task File s0 apart free n (Some m) both_written x s was (both_filled n m x s was))
+      (fits_journal ways task File s0 apart free n (Some m) both_written x s was (λ t now. both_filled n m x t now))
+
+  fitted : (n m : ℕ) (x : Numbers) (s : State) → Made false n m x s → Plays (of_file Fit ∷ of_file Clash ∷ of_journal Narrow ∷ both_written) x s
+  fitted n m x s was =
+      let Given : Bool → State → ℕ → Type 0 = λ ok t m. IsGiven m (rights_of task.file) ok s t in
+      let after : (ok : Bool) (t : State) → IsSomeAnd x.file (Given ok t) → Made ok n m x t = λ ok t is.
+      file_fitted ways task File s0 apart free ok n m x s t was (some_known x.file m (Given ok t) was.file_number is) in
+      changed ways task (CanSucceed ways task File s0) (Promised ways task File s0) (Done ways task File s0) Base Fit (of_file Clash ∷ of_journal Narrow ∷ both_written) x s
+      (λ ok t. IsSomeAnd x.file (Given ok t)) (λ can. subst IsSome (sym was.file_number) refl) (λ ok y t does. does)
+      (λ none. apart_then n m x s (file_unread ways task File s0 apart free n m x s (none refl) was))
+      (λ ok t is. promised ways task File s0 apart free false ok n (Some m) x t (after ok t is)) (λ t is. apart_then n m x t (after true t is))
 
   pub both_steps : (x : Numbers) → x.file ≡ None → Plays both_made x s0
   both_steps =
-      first_steps ways task File s0 apart free (of_file Make ∷ of_file Fit ∷ of_journal Fit ∷ both_written)
+      first_steps ways task File s0 apart free false (of_file Make ∷ of_file Fit ∷ of_file Clash ∷ of_journal Narrow ∷ both_written)
       (λ n x s was stands.
-      let made : (ok : Bool) (y : Numbers) (t : State) → StepDoes ways task (of_file Make) ok x y s t → (m : ℕ) × Both n m y t = λ ok y t does.
+      let made : (ok : Bool) (y : Numbers) (t : State) → StepDoes ways task (of_file Make) ok x y s t → (m : ℕ) × Made false n m y t = λ ok y t does.
       both_made_then ways task File s0 apart free n ok x y s t was stands does in
-      stepped ways task (CanSucceed ways task File s0) (Promised ways task File s0) (Done ways task File s0) Base Make (of_file Fit ∷ of_journal Fit ∷ both_written) x s (λ can. was.new_file)
-      (λ never. never_rests (Plays (of_file Fit ∷ of_journal Fit ∷ both_written) x s) never)
-      (λ ok y t does. promised ways task File s0 apart free n (Some (made ok y t does).0) y t (made ok y t does).1)
+      stepped ways task (CanSucceed ways task File s0) (Promised ways task File s0) (Done ways task File s0) Base Make (of_file Fit ∷ of_file Clash ∷ of_journal Narrow ∷ both_written) x s
+      (λ can. was.new_file) (λ never. never_rests (Plays (of_file Fit ∷ of_file Clash ∷ of_journal Narrow ∷ both_written) x s) never)
+      (λ ok y t does. promised ways task File s0 apart free false false n (Some (made ok y t does).0) y t (made ok y t does).1)
       (λ y t does. fitted n (made true y t does).0 y t (made true y t does).1))
 
   -- ---- or the journal alone
@@ -557,17 +727,17 @@ module _ (ways : Ways) (task : Task) (s0 : State) (apart : AreApart (Four ways t
   abbrev PlaysAlone : List Step → Numbers → State → Type 0
   PlaysAlone = Playing ways task None s0 apart free
 
-  alone_place : (n : ℕ) (x : Numbers) (r : State) → AreNew ways task None s0 n None x r → Waits r At.new_journal task.journal_bytes → PlaysAlone alone_placed x r
+  alone_place : (n : ℕ) (x : Numbers) (r : State) → AreNew ways task None s0 true true n None x r → Waits r At.new_journal task.journal_bytes → PlaysAlone alone_placed x r
   alone_place n x r was waits =
       journal_steps ways task None s0 apart free n None x r was waits
-      (λ u placing crash can. alone_tell crash ways.folder At u (alone_placing crash ways.folder At r u apart (alone_then ways task None s0 apart free n x r was crash can) placing)) SyncLast
+      (λ u placing crash can. alone_tell crash ways.folder At u (alone_placing crash ways.folder At r u apart (alone_then ways task None s0 apart free true true n x r was crash can) placing)) SyncLast
       (λ t. tt) (λ ok y t u does. does) (λ t never. never) []
       (λ u placing for_good. journal_last ways task None s0 apart free n None x r was waits u for_good)
 
   pub alone_steps : (x : Numbers) → x.file ≡ None → PlaysAlone alone_made x s0
   alone_steps =
-      first_steps ways task None s0 apart free (of_journal Fit ∷ alone_written)
+      first_steps ways task None s0 apart free true (of_journal Narrow ∷ alone_written)
       (λ n x s was stands.
       fits_journal ways task None s0 apart free n None alone_written x s was
-      (journal_filled ways task None s0 apart free n None (of_file Look ∷ alone_placed)
-      (λ y t now waits. looks_at_file ways task None s0 apart free n None alone_placed y t now (alone_place n y t now waits)) x s was))
+      (λ t fits. journal_filled ways task None s0 apart free n None (of_file Look ∷ alone_placed)
+      (λ y t now waits. looks_at_file ways task None s0 apart free n None alone_placed y t now (alone_place n y t now waits)) x t fits))

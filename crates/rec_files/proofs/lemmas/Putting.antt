@@ -1,11 +1,14 @@
 -- What a put promises, by the paths as they were given.
 use Rattle.std.proofs.Common.{◌≡◌, ◌∙◌, inl, inr, ℕ, ◌≤◌, Bool, true, List, length, Option, Some, None, IfSome, refl, sym, ap, subst}
-use Rattle.rec_disk.specs.Disk.{State, Story, Told}
+use Rattle.std.specs.Prelude.{IsSome, option_map}
+use Rattle.std.specs.Option.{option_and_then}
+use Rattle.rec_disk.specs.Disk.{State, Story, Look, Told, rights_seen}
+use Rattle.std.proofs.lemmas.Bool.{false≢true}
 use Rattle.rec_disk.specs.Lasting.{Spares}
 use Rattle.rec_disk.proofs.lemmas.Moments.{told_so}
 use Rattle.rec_disk.proofs.lemmas.Calls.{spares_still}
 use Rattle.rec_tools.specs.Home.{Write, written, writes_by}
-use Rattle.rec_files.specs.OnDisk.{Places, AreTold, Holds, IsSecure, LastingPut, or_empty}
+use Rattle.rec_files.specs.OnDisk.{Places, AreTold, Holds, IsSecure, LastingPut, or_empty, rights_at, GivesRights}
 use Rattle.rec_files.specs.Succeeding.{AreApart, CanPrepare, IsAsSeen, IsTold, Known}
 use Rattle.rec_files.specs.proving.Replacing.{AreAsSeen, AreResolved, IsPut, led}
 use Rattle.rec_files.specs.proving.Steps.{Ways, Task, Numbers, AreFound, CanReplace, MayBegin, Puts}
@@ -15,8 +18,25 @@ use Rattle.rec_files.proofs.lemmas.Replacing.{weaker_moments}
 use Rattle.rec_files.proofs.lemmas.Recovering.{recovers_by}
 use Rattle.rec_files.proofs.lemmas.Succeeding.{same_told, told_with}
 use Rattle.rec_files.proofs.lemmas.Playing.{since_start}
-use Rattle.rec_files.proofs.lemmas.Promises.{Four, Two}
+use Rattle.rec_files.proofs.lemmas.Promises.{AreSeen, Four, Two}
 use Rattle.rec_files.proofs.lemmas.Played.{IsLast, IsSafe, none_put, safe_put}
+
+-- each look, if there is one, tells what it saw
+abbrev pub AreTelling : Option (Option Look) → Option (Option Look) → Type 0
+AreTelling file journal = IfSome file IsSome × IfSome journal IsSome
+
+if_some_told : {X S : Type 0} (tells : S → Option Look) (seen : X → S) → ((status : S) → IsSome (tells status)) → (old : Option X) → IfSome (option_map (λ x. tells (seen x)) old) IsSome
+if_some_told tells seen law None = tt
+if_some_told tells seen law (Some x) = law (seen x)
+
+pub are_telling : {X S : Type 0} (tells : S → Option Look) (seen : X → S) → ((status : S) → IsSome (tells status)) → (file journal : Option X)
+    → AreTelling (option_map (λ x. tells (seen x)) file) (option_map (λ x. tells (seen x)) journal)
+are_telling tells seen law file journal = (if_some_told tells seen law file, if_some_told tells seen law journal)
+
+seen_rights : (p : List ℕ) (look : Option (Option Look)) (s : State) → IfSome look IsSome → IsAsSeen p look s → rights_at s p ≡ option_and_then rights_seen look
+seen_rights p None s tells seen = ap (option_map s.rights) seen
+seen_rights p (Some None) s tells seen = absurd (false≢true tells)
+seen_rights p (Some (Some look)) s tells seen = ap (option_map s.rights) seen.number ∙ sym (ap Some seen.rights)
 
 -- nothing is changed
 pub put_still : (place folder : List ℕ → List ℕ) (syncs : List ℕ → Bool) (p : Places) (writes : List Write) (ok : Bool) (o n : Option Story) → n ≡ o
@@ -72,10 +92,16 @@ module _ (ways : Ways) (given_file given_journal : List ℕ) (task : Task) (file
   own_given s may = ap (λ q. led (λ r. r) q (ways.place task.journal.path)) may.resolved.file_is ∙ ap (λ q. led (λ r. r) (ways.leads given_file) q) may.resolved.journal_is
 
   module _ (is_file : task.file_bytes ≡ or_empty file) (ok : Bool) (short : length task.journal_bytes ≤ 1_073_741_824) where
-    put_at : (a : Story) (n : Option Story) → Begins a.now → Puts ways task file x ok (Some a) n → IsPut ways.place ways.folder ways.syncs (Two ways task) Writes ok (Some a) n
-    put_at a n may puts =
+    put_at : (a : Story) (n : Option Story) → AreTelling task.file.look task.journal.look → Begins a.now → Puts ways task file x ok (Some a) n
+        → IsPut ways.place ways.folder ways.syncs (Two ways task) Writes ok (Some a) n
+    put_at a n tells may puts =
         let Safe : State → Type 0 = IsSafe ways task file x is_file may.apart a may.found in
         let safe = safe_put ways task file x is_file may.apart a may.found ok n puts in
+        let as_seen = subst (λ p. AreAsSeen p task.file.look task.journal.look a.now) (sym (own_given a.now may)) may.seen in
+        let seen : AreSeen ways task a.now = (
+          seen_rights (Four ways task).file task.file.look a.now tells.0 as_seen.0,
+          seen_rights (Four ways task).journal task.journal.look a.now tells.1 as_seen.1,
+        ) in
         record {
           any_moment = λ crash c can read.
               since_start (IsSecure crash (Two ways task) c Writes) a n
@@ -96,6 +122,7 @@ module _ (ways : Ways) (given_file given_journal : List ℕ) (task : Task) (file
             λ q ne_file ne_journal ne_new_file ne_new_journal.
                 since_start (Spares q) a n
                 (weaker_moments Safe (λ u. Spares q a.now u) (Some a) n (λ u is. is.strangers q ne_file ne_journal ne_new_file ne_new_journal) safe.0),
+            since_start (GivesRights (Four ways task)) a n (weaker_moments Safe (λ u. GivesRights (Four ways task) a.now u) (Some a) n (λ u is. is.rights seen) safe.0),
           );
           recovers = inr (
             task.file.path,
@@ -114,13 +141,15 @@ module _ (ways : Ways) (given_file given_journal : List ℕ) (task : Task) (file
           );
         }
 
-    put_on : (o n : Option Story) → Told o Begins → Puts ways task file x ok o n → IsPut ways.place ways.folder ways.syncs Given Writes ok o n
-    put_on None n begins puts =
+    put_on : (o n : Option Story) → (IsSome o → AreTelling task.file.look task.journal.look) → Told o Begins → Puts ways task file x ok o n
+        → IsPut ways.place ways.folder ways.syncs Given Writes ok o n
+    put_on None n telling begins puts =
         let same = none_put ways task file x ok n puts in
         put_still ways.place ways.folder ways.syncs Given Writes ok None n same
         (λ fine crash c can read. subst (λ n. Told n (Holds crash Given (written c Writes))) (sym same) tt)
-    put_on (Some a) n may puts =
-        subst (λ p. IsPut ways.place ways.folder ways.syncs p Writes ok (Some a) n) (own_given a.now may) (put_at a n may puts)
+    put_on (Some a) n telling may puts =
+        subst (λ p. IsPut ways.place ways.folder ways.syncs p Writes ok (Some a) n) (own_given a.now may) (put_at a n (telling refl) may puts)
 
-    pub is_put : (o b n : Option Story) → b ≡ o → Told o Begins → Puts ways task file x ok b n → IsPut ways.place ways.folder ways.syncs Given Writes ok o n
-    is_put o b n same begins puts = put_on o n begins (subst (λ b. Puts ways task file x ok b n) same puts)
+    pub is_put : (o b n : Option Story) → b ≡ o → (IsSome o → AreTelling task.file.look task.journal.look) → Told o Begins → Puts ways task file x ok b n
+        → IsPut ways.place ways.folder ways.syncs Given Writes ok o n
+    is_put o b n same telling begins puts = put_on o n telling begins (subst (λ b. Puts ways task file x ok b n) same puts)

@@ -21,7 +21,7 @@ use Rattle.rec_tools.specs.declared.home.Which.TheVariants.{Base, Journal}
 use Rattle.rec_files.specs.declared.access.Access.{Access}
 use Rattle.rec_files.specs.declared.access.Access.TheVariants.{Look as Looks, Change as Changes}
 use Rattle.rec_files.specs.proving.Replacing.{IsFound}
-use Rattle.rec_files.specs.proving.Succeeding.{CanRead, MayWrite, IsOwnJournal, IsNoted, IsLockable}
+use Rattle.rec_files.specs.proving.Succeeding.{CanRead, IsLookStill, MayWrite, IsOwnJournal, IsNoted, IsLockable}
 use Rattle.rec_files.specs.Leftovers.{IsLeftJournal, IsLeftText}
 use Rattle.rec_disk.specs.Paths.{working_name}
 use Rattle.rec_files.specs.Paths.{path_of, end_of}
@@ -59,8 +59,8 @@ module _ {X : Type 0} (number : X → ℕ) (tells : X → Option Look) where
   can_read p None s at seen short = tt
   can_read p (Some o) s at seen short = record {
     short = short;
-    same = some_so (tells o) (IsLookAt s p) (λ look. (look.number ≡ number o) × (look.version ≡ s.version (number o)))
-        (λ look is. let same : look.number ≡ number o = cc in (same, is.version ∙ ap s.version same)) seen;
+    same = some_so (tells o) (IsLookAt s p) (IsLookStill s (number o))
+        (λ look is. let same : look.number ≡ number o = cc in (same, (is.version ∙ ap s.version same, is.rights ∙ ap s.rights same))) seen;
   }
 
   pub both_read : (old other : Option X) (s : State) (P : Type 0) → P → IfSome old (λ o. CanRead (number o) (tells o) s) → IfSome other (λ o. CanRead (number o) (tells o) s)
@@ -167,13 +167,21 @@ pub seen_still : (p : List ℕ) (look : Option (Option Look)) (s t : State) → 
 seen_still p None s t same seen = same.at ∙ seen
 seen_still p (Some look) s t same seen =
     some_so look (IsLookAt s p) (IsLookAt t p)
-    (λ l is. let at : t.at p ≡ Some l.number = same.at ∙ is.number in record { number = at; version = is.version ∙ sym (same.version l.number (inl (sym at))) }) seen
+    (λ l is. let at : t.at p ≡ Some l.number = same.at ∙ is.number in record {
+      number = at;
+      version = is.version ∙ sym (same.version l.number (inl (sym at)));
+      rights = is.rights ∙ sym (same.rights l.number (inl (sym at)));
+    }) seen
 
 seen_there : {X : Type 0} (number : X → ℕ) (tells : X → Option Look) (p : List ℕ) (old : Option X) (s : State) → s.at p ≡ option_map number old
     → IfSome old (λ x. IsSomeAnd (tells x) (IsLookFor s (number x))) → HasSeen p (option_map tells old) s
 seen_there number tells p None s at seen = at
 seen_there number tells p (Some x) s at seen =
-    some_so (tells x) (IsLookFor s (number x)) (IsLookAt s p) (λ look is. record { number = at ∙ sym (ap Some is.number); version = is.version ∙ sym (ap s.version is.number) }) seen
+    some_so (tells x) (IsLookFor s (number x)) (IsLookAt s p) (λ look is. record {
+      number = at ∙ sym (ap Some is.number);
+      version = is.version ∙ sym (ap s.version is.number);
+      rights = is.rights ∙ sym (ap s.rights is.number);
+    }) seen
 
 pub stands_still : (place leads : List ℕ → List ℕ) (known : Known) (s t : State) → Spares (place known.path) s t → StandsAsSeen place leads known s → StandsAsSeen place leads known t
 stands_still place leads known s t same stands =
@@ -270,7 +278,7 @@ module _ {X : Type 0} (number : X → ℕ) (seen : X → Option Look) (which : W
       subst (λ n. IsTold n (MayRead (Some x))) (sym same)
       (record {
         short = (there_opened which path (λ n. IsShort a.now n × P a.now n) (number x) (subst (IsThere which path (λ n. IsShort a.now n × P a.now n)) at given)).0;
-        same = some_so (seen x) (IsLookFor a.now (number x)) (λ look. (look.number ≡ number x) × (look.version ≡ a.now.version (number x))) (λ look is. (is.number, is.version)) unwritten;
+        same = some_so (seen x) (IsLookFor a.now (number x)) (IsLookStill a.now (number x)) (λ look is. (is.number, (is.version, is.rights))) unwritten;
       })
 
 -- ---- a look

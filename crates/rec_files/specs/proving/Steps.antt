@@ -1,13 +1,17 @@
 -- The steps in which a file and its journal are replaced, what each does to a disk, and what it needs.
 use Rattle.std.specs.Prelude.{◌≡◌, ◌≢◌, ◌⊎◌, ◌≤◌, ℕ, Bool, true, false, List, [], ◌∷◌, length, take, Option, Some, None}
 use Rattle.std.specs.Prelude.{IfSome, IsSome, IsSomeAnd, option_map}
+use Rattle.std.specs.Option.{option_and_then}
 use Rattle.rec_disk.specs.Disk.{State, Story, Look as DiskLook, next, IsFresh, made, wrote, synced, renamed, removed}
+use Rattle.rec_disk.specs.Disk.{IsGiven, rights_seen}
+use Rattle.rec_disk.specs.declared.log.Rights.{Rights}
+use Rattle.rec_disk.specs.Rights.{narrow}
 use Rattle.rec_disk.specs.Paths.{working_name}
 use Rattle.rec_tools.specs.declared.home.Which.{Which}
 use Rattle.rec_tools.specs.declared.home.Which.TheVariants.{Base, Journal}
 use Rattle.rec_files.specs.declared.steps.Act.{Act}
-use Rattle.rec_files.specs.declared.steps.Act.TheVariants.{Make, Part, Fit, Measure, Look, Write, Keep, Place, Sync}
-use Rattle.rec_files.specs.declared.steps.Act.TheVariants.{SyncLast, Settle, Remove, Clear}
+use Rattle.rec_files.specs.declared.steps.Act.TheVariants.{Make, Part, Fit, Narrow, Clash, Measure, Look, Write}
+use Rattle.rec_files.specs.declared.steps.Act.TheVariants.{Keep, Place, Sync, SyncLast, Settle, Remove, Clear}
 use Rattle.rec_files.specs.declared.steps.Step.{Step}
 use Rattle.rec_files.specs.declared.steps.Made.{Made}
 use Rattle.rec_files.specs.declared.target.Target.{Target}
@@ -82,6 +86,13 @@ Moves (Some a) new Rests Does = (Rests a.now × (new ≡ Some a)) ⊎ ((t : Stat
 
 -- ---- single acts
 
+-- the rights of what was read of one of the two, and those that a new journal gets, of its file and of the older one
+abbrev pub rights_of : Known → Option Rights
+rights_of known = option_and_then rights_seen known.look
+
+abbrev pub narrow_of : Known → Known → Option Rights
+narrow_of file journal = option_map (λ model. narrow model (rights_of journal)) (rights_of file)
+
 module _ (ways : Ways) (side : Side) where
   abbrev pub at_of : List ℕ
   at_of = ways.place side.own.path
@@ -92,7 +103,9 @@ module _ (ways : Ways) (side : Side) where
   -- by the number of what was made for it, and whether it succeeded: nothing is done on the disk
   abbrev pub Rests : Act → Bool → Option ℕ → State → Type 0
   Rests Part ok x s = ok ≡ true → ways.folder at_of ≡ ways.folder (ways.place side.other.path)
-  Rests Fit ok x s = Unit {0}
+  Rests Fit ok x s = ok ≡ true → side.own.look ≡ None
+  Rests Narrow ok x s = ok ≡ true → side.other.look ≡ None
+  Rests Clash ok x s = Unit {0}
   Rests Measure ok x s = Unit {0}
   Rests Look ok x s = Unit {0}
   Rests Settle ok x s = ok ≡ true → s.at at_of ≡ None
@@ -104,6 +117,8 @@ module _ (ways : Ways) (side : Side) where
   abbrev pub Does : Act → Bool → Option ℕ → Option ℕ → State → State → Type 0
   Does Make ok x y s t = (n : ℕ) × (s.at new_of ≡ None) × IsFresh s n × (t ≡ made s new_of n) × (y ≡ Some n)
   Does Part ok x y s t = (y ≡ x) × IsSyncing ways.folder ways.syncs (ways.folder at_of) s t
+  Does Fit ok x y s t = (y ≡ x) × IsSomeAnd x (λ n. IsGiven n (rights_of side.own) ok s t)
+  Does Narrow ok x y s t = (y ≡ x) × IsSomeAnd x (λ n. IsGiven n (narrow_of side.other side.own) ok s t)
   Does Write ok x y s t = (y ≡ x) × IsSomeAnd x (λ n. (k : ℕ) × (t ≡ wrote s n (take k side.bytes))
       × (ok ≡ true → take k side.bytes ≡ side.bytes))
   Does Keep ok x y s t = (y ≡ x) × IsSomeAnd x (λ n. t ≡ synced s n)
@@ -125,7 +140,9 @@ module _ (ways : Ways) (side : Side) where
   -- what an act needs, to succeed on a disk that works
   abbrev pub Needs : Act → Option ℕ → State → Type 0
   Needs Make x s = s.at new_of ≡ None
-  Needs Fit x s = IsSomeAnd x (λ n. s.at (ways.place side.other.path) ≢ Some n)
+  Needs Fit x s = IsSome x
+  Needs Narrow x s = IsSome x
+  Needs Clash x s = IsSomeAnd x (λ n. s.at (ways.place side.other.path) ≢ Some n)
   Needs Measure x s = length side.bytes ≤ 1_073_741_824
   Needs Look x s = IfSome x (λ n. s.at new_of ≡ Some n) × StandsAsSeen ways.place ways.leads side.own s
   Needs Write x s = IsSome x
@@ -200,7 +217,8 @@ abbrev pub both_written : List Step
 both_written = of_journal Write ∷ of_journal Keep ∷ of_file Measure ∷ file_written
 
 abbrev pub both_made : List Step
-both_made = of_journal Make ∷ of_journal Part ∷ of_file Make ∷ of_file Fit ∷ of_journal Fit ∷ both_written
+both_made =
+    of_journal Make ∷ of_journal Part ∷ of_file Make ∷ of_file Fit ∷ of_file Clash ∷ of_journal Narrow ∷ both_written
 
 -- or the journal alone
 abbrev pub alone_placed : List Step
@@ -210,7 +228,7 @@ abbrev pub alone_written : List Step
 alone_written = of_journal Write ∷ of_journal Keep ∷ of_file Look ∷ alone_placed
 
 abbrev pub alone_made : List Step
-alone_made = of_journal Make ∷ of_journal Part ∷ of_journal Fit ∷ alone_written
+alone_made = of_journal Make ∷ of_journal Part ∷ of_journal Narrow ∷ alone_written
 
 abbrev pub list_for : Option (List ℕ) → List Step
 list_for (Some file) = both_made

@@ -25,10 +25,14 @@ pub record CanSettle (place : List ℕ → List ℕ) (regular : ℕ → Bool) (k
   pub at : s.at (place known.path) ≡ known.number
   pub is_regular : SawRegular regular known.look
 
--- an open file isn't longer than what is read, and nobody wrote it since this look at it
+-- nobody wrote a file, or gave it other rights, since this look at it
+abbrev pub IsLookStill : State → ℕ → Look → Type 0
+IsLookStill s n look = (look.number ≡ n) × ((look.version ≡ s.version n) × (look.rights ≡ s.rights n))
+
+-- an open file isn't longer than what is read, and is as it was looked at
 pub record CanRead (n : ℕ) (look : Option Look) (s : State) : Type 0 where
   pub short : length (s.bytes n) ≤ 1_073_741_824
-  pub same : IsSomeAnd look (λ look. (look.number ≡ n) × (look.version ≡ s.version n))
+  pub same : IsSomeAnd look (IsLookStill s n)
 
 -- nothing stands under the two working names
 pub record AreFree (sites : Sites) (s : State) : Type 0 where

@@ -8,7 +8,7 @@ use Rattle.rec_files.specs.Succeeding.{known}
 use Rattle.rec_files.specs.proving.Replacing.{led}
 use Rattle.rec_files.specs.proving.Steps.{numbers, task_of, ways_of}
 use Rattle.rec_files.proofs.lemmas.Steps.{on_ok}
-use Rattle.rec_files.proofs.lemmas.Putting.{begun, is_put, may_replace, put_still}
+use Rattle.rec_files.proofs.lemmas.Putting.{are_telling, begun, is_put, may_replace, put_still}
 use Rattle.rec_files.proofs.replacing.put.Goals as goal
 
 pub returns-in_err-found-clause-goes : goal.returns-in_err-found-clause-goes
@@ -32,7 +32,8 @@ returns-clause-goes g c = λ short.
     let ways = ways_of g.D.Disk.place g.D.Disk.leads g.D.Disk.folder g.D.Disk.syncs g.D.Disk.regular in
     let task = task_of g.D.Disk.number g.D.Disk.tells c.args.file.now c.args.journal.now c.bytes_of.result.now c.args.journal_bytes.now in
     is_put ways c.args.paths.file.now c.args.paths.journal.now task (option_copied c.args.file_bytes) (numbers g.D.Disk.number c.in_ok-found.found) c.bytes_of.ensures _ short _ _ _
-    c.prepare.ensures.same c.in_ok-found.ensures.begins c.replace.ensures.puts
+    c.prepare.ensures.same (λ told. are_telling g.D.Disk.tells (λ opened. opened.seen) (λ status. g.met.D.Disk.told c.args.disk.now status told) c.args.file.now.old c.args.journal.now.old)
+    c.in_ok-found.ensures.begins c.replace.ensures.puts
 
 pub returns-clause-succeeds : goal.returns-clause-succeeds
 returns-clause-succeeds g c = λ works.

@@ -28,7 +28,7 @@ returns-in-Ok-clause-call g c = rw (← c.disk.view_is) (
             finds_noted (known g.D.Disk.number g.D.Disk.tells) g.D.Disk.leads c.args.self.now.access (string_bytes c.args.self.now.journal) c.args.self.now.last
             (option_map string_bytes c.args.self.now.file) c.path_in.result.now
             c.as_str.result.now c.path_in.ensures c.as_str.ensures.value c.args.self.now.both.file c.args.self.now.both.journal _ c.in-Ok.ensures.noticed;
-        goes_on = refl;
+        goes_on = (refl, (ap (option_map (known g.D.Disk.number g.D.Disk.tells)) c.put.ensures.held.0, ap (option_map (known g.D.Disk.number g.D.Disk.tells)) c.put.ensures.held.1));
         last = tt;
       },
     ),

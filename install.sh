@@ -1,5 +1,5 @@
 #!/usr/bin/env bash
-# Installs recu: the program, its man pages, and completions for bash, zsh and fish. Builds it first, where it isn't built.
+# Installs recu: the program, the script recu-edit, their man pages, and completions for bash, zsh and fish. Builds it first, where it isn't built.
 #     bash install.sh [PREFIX]               into PREFIX, or into ~/.local
 #     bash install.sh --unproved [PREFIX]    the program that is built without proofs, in minutes, and is much slower
 #     bash install.sh --remove [PREFIX]      removes from there what it installed
@@ -45,7 +45,7 @@ prefix=${1:-$HOME/.local}
 [[ $prefix == /* ]] || prefix=$PWD/$prefix
 
 # What is installed, and its place below PREFIX.
-from=("$program") to=(bin/recu)
+from=("$program" "$top/recu-edit") to=(bin/recu bin/recu-edit)
 for page in "$top"/man/*.[157]; do
     from+=("$page") to+=("share/man/man${page##*.}/${page##*/}")
 done
@@ -53,11 +53,11 @@ from+=("$top/completions/recu.bash" "$top/completions/recu.zsh" "$top/completion
 to+=(share/bash-completion/completions/recu share/zsh/site-functions/_recu share/fish/vendor_completions.d/recu.fish)
 
 install_all() {
-    local index mode=755
+    local index mode
     provide
     for index in "${!from[@]}"; do
+        case ${to[index]} in bin/*) mode=755 ;; *) mode=644 ;; esac
         install -D -m "$mode" -- "${from[index]}" "$prefix/${to[index]}" || fail "$prefix/${to[index]} could not be written"
-        mode=644
     done
     echo "$named is installed in $prefix"
     [[ :$PATH: == *":$prefix/bin:"* ]] || echo "To find it by its name, add this to PATH: $prefix/bin"

@@ -92,7 +92,7 @@ _recu() {
         N)
             [ -z "$file" ] || COMPREPLY=($(compgen -W "$(_recu_numbers "$tool" "$file" "$journal")" -- "$current"))
             ;;
-        PATH) compopt -o default ;;
+        PATH | OLD) compopt -o default ;;
         '')
             if [[ $current == -* ]]; then
                 COMPREPLY=($(compgen -W "${options[*]}" -- "$current"))

@@ -108,7 +108,7 @@ for tool in (__recu_tools | string replace -r '\t.*' '')
                 set -a words -x -a '(__recu_names)'
             case N
                 set -a words -x -a '(__recu_numbers)'
-            case PATH
+            case PATH OLD
                 set -a words -r -F
             case '*'
                 set -a words -x

@@ -56,7 +56,7 @@ _recu() {
     # A spec for each letter and each name of an option.
     local line letter name value about word often
     local -A takes
-    local -A actions=(TYPE _recu_types FIELDS _recu_names NAME _recu_names N _recu_numbers PATH _files)
+    local -A actions=(TYPE _recu_types FIELDS _recu_names NAME _recu_names N _recu_numbers PATH _files OLD _files)
     for line in ${(f)"$(recu $tool -h 2> /dev/null)"}; do
         [[ $line =~ '^ +(-[A-Za-z])?(, )?(--[a-z-]+)?( <([A-Z=]+)>)?  +([^ ].*)$' ]] || continue
         letter=$match[1] name=$match[3] value=$match[5] about=${match[6]//(#m)[\]\[:\\]/\\$MATCH} often=
@@ -94,6 +94,7 @@ _recu() {
         # (what stands before FILE may be left out)
         show/ | adopt/*) specs+=(':FILE:_files' '::FILE:_files') ;;
         forget/*) specs+=(':N: ' ':FILE:_files') ;;
+        write/*) specs+=(':NEW:_files' ':FILE:_files') ;;
         *) specs+=(':FILE:_files') ;;
     esac
 

@@ -83,7 +83,7 @@ END
     done
 }
 
-tools=(recsel recinf recfix recins recdel recset batch undo redo revert adopt history show forget)
+tools=(recsel recinf recfix recins recdel recset batch undo redo revert adopt write history show forget)
 
 # in_table TOOL: letters, names and values of a tool's options, as the tables of rec_command give them: a line for each
 in_table() {

@@ -10,7 +10,7 @@ import subprocess
 import sys
 import tempfile
 
-REQUESTS = 7
+REQUESTS = 8
 FORGETTING = 4
 ADOPTION = 5
 TEXT = b"A: 1\n\nA: 2\n"

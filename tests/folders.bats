@@ -401,9 +401,12 @@ all_noted() {
     put "${words[-1]}" 'A: 6¶'
     put changes 'A: 5¶¶A: 2¶'
     noted 5 "$1" adopt changes "${words[@]}"
+    put changes 'A: 7¶¶A: 6¶'
+    put old 'A: 6¶'
+    noted 6 "$1" write --over old changes "${words[@]}"
     put changes 'Tool: recins¶Field: B¶Value: 3¶'
-    noted 6 "$1" batch -b changes "${words[@]}"
-    [ "$("$stories" log 7 "$1")" = 'usage: rec_crashes [log NUMBER FOLDERS]' ] || fail 'there is a request more'
+    noted 7 "$1" batch -b changes "${words[@]}"
+    [ "$("$stories" log 8 "$1")" = 'usage: rec_crashes [log NUMBER FOLDERS]' ] || fail 'there is a request more'
 }
 
 @test "what is done to files is what is noted on a disk in memory" {

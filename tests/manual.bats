@@ -5,7 +5,7 @@ load sessions
 
 @test "mandoc has nothing to say of the man pages" {
     mandoc -T lint -W warning "$top"/man/*
-    [ "$(ls "$top/man" | wc -l)" = 17 ]
+    [ "$(ls "$top/man" | wc -l)" = 19 ]
 }
 
 @test "the sessions of the man pages" {

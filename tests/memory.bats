@@ -348,6 +348,15 @@ is_told_of_the_end() {
     fast each_allocation is_told_of_the_end adopt old db.rec
 }
 
+@test "memory for a whole text" {
+    mkdir start
+    put start/db.rec '%rec: P¶%key: Id¶¶Id: 1¶¶Id: 2¶¶Id: 3¶'
+    put after.rec '%rec: P¶%key: Id¶¶Id: 1¶¶Id: 3¶¶Id: 4¶# x¶'
+    cp start/db.rec old
+    cp after.rec new
+    fast each_allocation is_edited write --over old new db.rec
+}
+
 # is_printed WORD..: judges a run that prints the file printed, and ends with the status $wanted
 is_printed() {
     case "$status/$(tail -n 1 err)" in

@@ -34,6 +34,7 @@ steps() {
 begin() {
     mkdir "$BATS_TEST_TMPDIR/bin"
     ln -s "$program" "$BATS_TEST_TMPDIR/bin/recu"
+    ln -s "$top/recu-edit" "$BATS_TEST_TMPDIR/bin/recu-edit"
     export PATH=$BATS_TEST_TMPDIR/bin:$PATH GIT_CONFIG_GLOBAL=/dev/null GIT_CONFIG_NOSYSTEM=1
     export GIT_AUTHOR_NAME=recu GIT_AUTHOR_EMAIL=recu@localhost GIT_COMMITTER_NAME=recu GIT_COMMITTER_EMAIL=recu@localhost
     cp "$top"/sample/* .

@@ -1,4 +1,4 @@
-# The session of demo.sh, and those in the documents: fenced blocks whose first line is a command after `$ `. What is printed is what stands there.
+# The session of demo.sh, those in the documents, and those of changes by hand: fenced blocks whose first line is a command after `$ `. What is printed is what stands there.
 
 load helpers
 load sessions
@@ -21,6 +21,10 @@ load sessions
 
 @test "the sessions of docs/from-gnu.md" {
     sessions docs/from-gnu.md
+}
+
+@test "the sessions of changes by hand" {
+    sessions tests/data/by_hand.md
 }
 
 @test "no other document has a session" {

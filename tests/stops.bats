@@ -1,7 +1,7 @@
-# An edit, a batch, an undo, a redo, several of them, a first edit, forgetting and an adoption, whose calls of the system fail or find no room,
-# or at which the program ends: the next command finds the history before or the one after, of several moves the one after some of
-# them, and both contents are whole. A file system without room, a file of
-# several MB, and a closed pipe. A loop over the numbers of calls.c ends with a run that has no such call.
+# An edit, a batch, an undo, a redo, several of them, a first edit, forgetting, an adoption and a whole text, whose calls of the
+# system fail or find no room, or at which the program ends: the next command finds the history before or the one after, of
+# several moves the one after some of them, and both contents are whole. A file system without room, a file of several MB, and a
+# closed pipe. A loop over the numbers of calls.c ends with a run that has no such call.
 
 load helpers
 load calls
@@ -48,7 +48,7 @@ state() {
 # The words of each command, its contents before and after, and the first text. The file `rest` has what follows the field.
 # Several moves pass the states that `passed` names.
 prepare() {
-    local digit events adopted first=1
+    local digit events adopted written first=1
     passed=()
     [ -e rest ] || put rest '¶B: 2¶¶C: 3¶'
     for digit in 1 8 9; do
@@ -125,6 +125,15 @@ prepare() {
             state before 9 "$events" 'drifted¶'
             adopted=$(edit 2 8 9 'A: 8' 'A: 9')
             state after 9 "$events${adopted/recset/adopt}" 'done 1 recset¶done 2 adopt¶'
+            ;;
+        write)
+            words=(write --over old new)
+            cp 8 old
+            cp 9 new
+            events=$header$(edit 1 1 8 'A: 1' 'A: 8')
+            state before 8 "$events" 'done 1 recset¶'
+            written=$(edit 2 8 9 'A: 8' 'A: 9')
+            state after 9 "$events${written/recset/write}" 'done 1 recset¶done 2 write¶'
             ;;
     esac
     mv "$first" first.rec
@@ -278,6 +287,10 @@ each_call() {
     fast each_call adopt 5
 }
 
+@test "each call of a whole text fails" {
+    fast each_call write 5
+}
+
 @test "there is no room at each call of a first edit" {
     fast each_call first 28
 }
@@ -310,6 +323,10 @@ each_call() {
 
 @test "there is no room at each call of an adoption" {
     fast each_call adopt 28
+}
+
+@test "there is no room at each call of a whole text" {
+    fast each_call write 28
 }
 
 @test "the program ends at each call of a first edit" {
@@ -346,16 +363,20 @@ each_call() {
     fast each_call adopt end
 }
 
+@test "the program ends at each call of a whole text" {
+    fast each_call write end
+}
+
 @test "each call in two folders fails" {
     local command folders=2
-    for command in first edit undo undo_through forget adopt; do
+    for command in first edit undo undo_through forget adopt write; do
         fast each_call "$command" 5
     done
 }
 
 @test "the program ends at each call in two folders" {
     local command folders=2
-    for command in first edit undo undo_through forget adopt; do
+    for command in first edit undo undo_through forget adopt write; do
         fast each_call "$command" end
     done
 }

@@ -19,9 +19,9 @@ silent() {
 
 @test "help" {
     local words
-    for words in --help -h help 'help recins' 'help recdel' 'help recset' 'help batch' 'help undo' 'help redo' 'help revert' 'help adopt' 'help history' 'help show' 'help forget' \
+    for words in --help -h help 'help recins' 'help recdel' 'help recset' 'help batch' 'help undo' 'help redo' 'help revert' 'help adopt' 'help write' 'help history' 'help show' 'help forget' \
         'recins --help' 'recins -h' 'recdel --help' 'recdel -h' 'recset --help' 'recset -h' 'batch --help' 'batch -h' 'undo --help' 'undo -h' \
-        'undo f -hx' 'redo --help' 'redo -h' 'revert --help' 'revert -h' 'revert 1 -h' 'adopt --help' 'adopt -h' 'adopt a b -h' 'history --help' 'history -h' 'show --help' 'show -h' 'show 1 f -h' \
+        'undo f -hx' 'redo --help' 'redo -h' 'revert --help' 'revert -h' 'revert 1 -h' 'adopt --help' 'adopt -h' 'adopt a b -h' 'write --help' 'write -h' 'write a b -h' 'history --help' 'history -h' 'show --help' 'show -h' 'show 1 f -h' \
         'forget --help' 'forget -h' 'forget 1 -h'; do
         recu 0 $words
         out | grep -q 'Usage: recu' || fail "recu $words prints no usage"
@@ -45,7 +45,7 @@ silent() {
     done
     for words in 'recsel --version' 'recsel -V' 'recinf --version' 'recinf -V' 'recfix --version' 'recfix -V' \
         'recins --version' 'recins -V' 'recdel --version' 'recdel -V' 'recset --version' 'recset -V' 'batch --version' 'batch -V' 'undo --version' \
-        'undo -V' 'redo --version' 'redo -V' 'revert --version' 'revert -V' 'adopt --version' 'adopt -V' 'history --version' 'history -V' 'show --version' 'show -V' 'forget --version' 'forget -V'; do
+        'undo -V' 'redo --version' 'redo -V' 'revert --version' 'revert -V' 'adopt --version' 'adopt -V' 'write --version' 'write -V' 'history --version' 'history -V' 'show --version' 'show -V' 'forget --version' 'forget -V'; do
         recu 0 $words
         [ -n "$(out)" ] || fail "recu $words prints no version"
         silent
@@ -77,12 +77,16 @@ example() {
         does recset -n 0 -f Name -s Eve contacts.rec
         mv first.rec contacts.rec
     fi
+    if [ "$1" = write ]; then
+        cp contacts.rec old.rec
+        sed 's/Ada/Eve/' contacts.rec > new.rec
+    fi
     cp contacts.rec contacts.rec.before
-    eval "recu 0 ${2#  recu }"
+    eval "${2/recu $1/recu 0 $1}"
     silent
     case $1 in
         recsel | recinf | history | show) [ -n "$(out)" ] || fail "$2 prints nothing" ;;
-        recins | recdel | recset | batch | undo | redo | revert)
+        recins | recdel | recset | batch | undo | redo | revert | write)
             ! cmp -s contacts.rec contacts.rec.before || ! cmp -s library.rec "$top/sample/library.rec" || fail "$2 changes nothing"
             ;;
         forget)
@@ -100,16 +104,16 @@ example() {
 
 @test "the examples of help" {
     local tool line number
-    for tool in recsel recinf recfix recins recdel recset batch undo redo revert adopt history show forget; do
+    for tool in recsel recinf recfix recins recdel recset batch undo redo revert adopt write history show forget; do
         recu 0 help "$tool"
         out > help
         tail -n 1 help | grep -q '^  recu ' || fail "the help of $tool ends with no example"
         number=0
         while IFS= read -r line; do
-            [[ $line == "  recu $tool "* ]] || fail "the help of $tool has an example of another tool: $line"
+            [[ $line == *" recu $tool "* ]] || fail "the help of $tool has an example of another tool: $line"
             example "$tool" "$line"
             number=$((number + 1))
-        done < <(sed -n '/^Examples:$/,$ { /^  recu /p }' help)
+        done < <(sed -n '/^Examples:$/,$ { /^  \(.* | \)*recu /p }' help)
         [ "$number" -ge 2 ] || fail "the help of $tool has $number examples"
     done
     recu 0 --help
@@ -136,7 +140,7 @@ listed() {
 
 @test "what help says of each tool and option" {
     local tool
-    for tool in '' recsel recinf recfix recins recdel recset batch undo redo revert adopt history show forget; do
+    for tool in '' recsel recinf recfix recins recdel recset batch undo redo revert adopt write history show forget; do
         recu 0 $tool --help
         out | listed "${tool:-recu}"
     done > listed
@@ -145,7 +149,7 @@ listed() {
 
 @test "help fits 80 columns" {
     local tool words
-    for tool in '' recsel recinf recfix recins recdel recset batch undo redo revert adopt history show forget; do
+    for tool in '' recsel recinf recfix recins recdel recset batch undo redo revert adopt write history show forget; do
         for words in "$tool --help" "$tool -h" "help $tool"; do
             recu 0 $words
             ! out | LC_ALL=C.UTF-8 grep -E '.{81}' || fail "a line of recu $words has more than 80 characters"

@@ -14,20 +14,21 @@ use Rattle.rec_tools.specs.declared.request.EditRequest.TheVariants.{Insert, Rep
 use Rattle.rec_tools.specs.declared.request.Look.{Look}
 use Rattle.rec_tools.specs.declared.request.Look.TheVariants.{Show, Info, Check, History, Diff, Log}
 use Rattle.rec_tools.specs.declared.request.Change.TheVariants.{Edit, Batch, Undo, Redo, Revert, Forget}
-use Rattle.rec_tools.specs.declared.request.Change.TheVariants.{Adopt}
+use Rattle.rec_tools.specs.declared.request.Change.TheVariants.{Adopt, Write}
 use Rattle.rec_disk.specs.Paths.{AreApart}
 use Rattle.rec_command.specs.declared.args.JournalPath.{JournalPath}
 use Rattle.rec_command.specs.declared.args.Order.{Order}
 use Rattle.rec_command.specs.declared.args.Order.TheVariants.{Look as Looks, Change as Changes, Preview as Previews}
 use Rattle.rec_command.specs.declared.args.ChangeOrder.{ChangeOrder}
-use Rattle.rec_command.specs.declared.args.ChangeOrder.TheVariants.{Whole, BatchAt, AdoptAt, Through}
+use Rattle.rec_command.specs.declared.args.ChangeOrder.TheVariants.{Whole, BatchAt, AdoptAt, WriteAt, Through}
 use Rattle.rec_command.specs.declared.tools.Tool.{Tool}
 use Rattle.rec_command.specs.declared.tools.Tool.TheVariants.{RecSel, RecInf, RecFix, RecIns, RecDel, RecSet}
 use Rattle.rec_command.specs.declared.tools.Tool.TheVariants.{Batch as ByBatch, Undo as ByUndo, Redo as ByRedo}
 use Rattle.rec_command.specs.declared.tools.Tool.TheVariants.{Revert as ByRevert, History as ByHistory}
-use Rattle.rec_command.specs.declared.tools.Tool.TheVariants.{Show as ByShow, Forget as ByForget, Adopt as ByAdopt}
+use Rattle.rec_command.specs.declared.tools.Tool.TheVariants.{Show as ByShow, Forget as ByForget, Adopt as ByAdopt, Write as ByWrite}
 use Rattle.rec_command.specs.Words.{has_flag, form_for, form_given, info_form_for, info_form_given, before_file_given, file_given}
 use Rattle.rec_command.specs.Words.{IsNumber, IsEditGiven, IsStyle, IsPick, AsksEdit, AsksLook, AsksChange, Orders, OrdersOrPreviews}
+use Rattle.rec_command.specs.Words.{ReadsInputOnce}
 use Rattle.rec_command.specs.Words.{HasNoJournal, IsEditJournal, IsJournal}
 
 -- what a tool has to be given
@@ -46,6 +47,7 @@ Needs ByUndo options = (number : Option ℕ) × IsEditGiven (first_of (codes "th
 Needs ByRedo options = (number : Option ℕ) × IsEditGiven (first_of (codes "through") options) number
 Needs ByRevert options = (number : ℕ) × IsEditGiven (first_of (codes "n") options) (Some number)
 Needs ByAdopt options = Unit {0}
+Needs ByWrite options = ((path : Text) × (first_of (codes "new") options ≡ Some path)) × ReadsInputOnce options
 Needs ByHistory options =
     (has_flag (codes "patch") options ≡ false) ⊎ ((style : DiffStyle) × IsStyle options style)
 Needs ByShow options =
@@ -87,11 +89,13 @@ look-needs tool options (Diff number style) is = rw is.0 ((number, is.1), (style
 change-needs : (tool : Tool) (options : List Row) (change : ChangeOrder) → AsksChange tool options change → Needs tool options
 change-needs tool options (BatchAt path force) is = rw is.0 (string_bytes path, is.1)
 change-needs tool options (AdoptAt old) is = rw is.0 tt
+change-needs tool options (WriteAt new over force) is = rw is.0 ((string_bytes new, is.1), is.3)
 change-needs tool options (Through Backward number) is = rw is.0 (Some number, is.1)
 change-needs tool options (Through Forward number) is = rw is.0 (Some number, is.1)
 change-needs tool options (Whole (Edit edit force)) is = needs-edit tool options edit is.0
 change-needs tool options (Whole (Batch text force)) is = absurd is
 change-needs tool options (Whole (Adopt old)) is = absurd is
+change-needs tool options (Whole (Write text over force)) is = absurd is
 change-needs tool options (Whole (Undo number)) is = rw is.0 (None, is.1)
 change-needs tool options (Whole (Redo number)) is = rw is.0 (None, is.1)
 change-needs tool options (Whole (Revert number force)) is = rw is.0 (number, is.1)
@@ -140,11 +144,13 @@ edit-changes tool options AutoFill is = rw is.0 (ap not is.1)
 change-changes : (tool : Tool) (options : List Row) (change : ChangeOrder) → AsksChange tool options change → is_look tool options ≡ false
 change-changes tool options (BatchAt path force) is = rw is.0 refl
 change-changes tool options (AdoptAt old) is = rw is.0 refl
+change-changes tool options (WriteAt new over force) is = rw is.0 refl
 change-changes tool options (Through Backward number) is = rw is.0 refl
 change-changes tool options (Through Forward number) is = rw is.0 refl
 change-changes tool options (Whole (Edit edit force)) is = edit-changes tool options edit is.0
 change-changes tool options (Whole (Batch text force)) is = absurd is
 change-changes tool options (Whole (Adopt old)) is = absurd is
+change-changes tool options (Whole (Write text over force)) is = absurd is
 change-changes tool options (Whole (Undo number)) is = rw is.0 refl
 change-changes tool options (Whole (Redo number)) is = rw is.0 refl
 change-changes tool options (Whole (Revert number force)) is = rw is.0 refl
@@ -216,6 +222,7 @@ alone-looks ByUndo options is = refl
 alone-looks ByRedo options is = refl
 alone-looks ByRevert options is = refl
 alone-looks ByAdopt options is = refl
+alone-looks ByWrite options is = refl
 alone-looks ByHistory options is = refl
 alone-looks ByShow options is = refl
 alone-looks ByForget options is = refl

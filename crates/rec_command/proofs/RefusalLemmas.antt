@@ -13,7 +13,7 @@ use Rattle.rec_command.specs.declared.args.refusal.Refusal.{Refusal}
 use Rattle.rec_command.specs.declared.args.refusal.Refusal.TheVariants.{OutOfMemory, Usage, Rule}
 use Rattle.rec_command.specs.declared.tools.Tool.{Tool}
 use Rattle.rec_command.specs.declared.tools.Tool.TheVariants.{RecSel, RecInf, RecFix, RecIns, RecDel, RecSet}
-use Rattle.rec_command.specs.declared.tools.Tool.TheVariants.{Batch, Undo, Redo, Revert, Adopt, History, Show, Forget}
+use Rattle.rec_command.specs.declared.tools.Tool.TheVariants.{Batch, Undo, Redo, Revert, Adopt, Write, History, Show, Forget}
 use Rattle.rec_command.specs.Refusals.{IsOrRefuses, IsParsed, IsRefusalOf, refusal_fault}
 use Rattle.rec_command.specs.Usage.{name_of, tools, usage}
 use Rattle.rec_command.specs.Words.{IsAsked, IsAskedBy}
@@ -73,6 +73,7 @@ tool_called-name_of Undo = refl
 tool_called-name_of Redo = refl
 tool_called-name_of Revert = refl
 tool_called-name_of Adopt = refl
+tool_called-name_of Write = refl
 tool_called-name_of History = refl
 tool_called-name_of Show = refl
 tool_called-name_of Forget = refl
@@ -97,9 +98,10 @@ no_tool_named name all Undo = all.1.1.1.1.1.1.1.0
 no_tool_named name all Redo = all.1.1.1.1.1.1.1.1.0
 no_tool_named name all Revert = all.1.1.1.1.1.1.1.1.1.0
 no_tool_named name all Adopt = all.1.1.1.1.1.1.1.1.1.1.0
-no_tool_named name all History = all.1.1.1.1.1.1.1.1.1.1.1.0
-no_tool_named name all Show = all.1.1.1.1.1.1.1.1.1.1.1.1.0
-no_tool_named name all Forget = all.1.1.1.1.1.1.1.1.1.1.1.1.1.0
+no_tool_named name all Write = all.1.1.1.1.1.1.1.1.1.1.1.0
+no_tool_named name all History = all.1.1.1.1.1.1.1.1.1.1.1.1.0
+no_tool_named name all Show = all.1.1.1.1.1.1.1.1.1.1.1.1.1.0
+no_tool_named name all Forget = all.1.1.1.1.1.1.1.1.1.1.1.1.1.1.0
 
 -- ---- the line
 

@@ -3,7 +3,8 @@ use Rattle.std.specs.Prelude.{true, List, [], ◌∷◌, ◌++◌, codes, Some, 
 use Rattle.clap.specs.Words.{App, Rule, Text, new_app, new_rule, with_rule, with_subcommand}
 use Rattle.rec_command.specs.declared.tools.Tool.{Tool}
 use Rattle.rec_command.specs.declared.tools.Tool.TheVariants.{RecSel, RecInf, RecFix, RecIns, RecDel, RecSet}
-use Rattle.rec_command.specs.declared.tools.Tool.TheVariants.{Batch, Undo, Redo, Revert, Adopt, History, Show, Forget}
+use Rattle.rec_command.specs.declared.tools.Tool.TheVariants.{Batch, Undo, Redo, Revert, Adopt, Write}
+use Rattle.rec_command.specs.declared.tools.Tool.TheVariants.{History, Show, Forget}
 use Rattle.clap.specs.declared.builder.action.ArgAction.TheVariants.{SetTrue, Append}
 
 -- `-x VALUE` or `--name VALUE`; without a letter the second alone
@@ -145,6 +146,15 @@ usage_of Revert = tool_with (codes "revert") (
 -- clap wants the word that has to be there first, so which of two stands before FILE is said in `Words`
 usage_of Adopt =
     tool_with (codes "adopt") (dry_run ∷ unified_option ∷ paths ++ word (codes "second") ∷ [])
+usage_of Write = tool_with (codes "write") (
+    valued [] (codes "over")
+    ∷ flag [] (codes "force")
+    ∷ dry_run
+    ∷ unified_option
+    ∷ journal_option
+    ∷ needed_word (codes "new")
+    ∷ needed_word (codes "file")
+    ∷ [])
 usage_of History = tool_with (codes "history") (flag [] (codes "patch") ∷ unified_option ∷ paths)
 usage_of Show = tool_with (codes "show") (unified_option ∷ paths ++ word (codes "second") ∷ [])
 usage_of Forget = tool_with (codes "forget") (
@@ -158,7 +168,7 @@ name_of tool = (usage_of tool).top.name
 abbrev pub tools : List Tool
 tools =
     RecSel ∷ RecInf ∷ RecFix ∷ RecIns ∷ RecDel ∷ RecSet ∷ Batch
-    ∷ Undo ∷ Redo ∷ Revert ∷ Adopt ∷ History ∷ Show ∷ Forget ∷ []
+    ∷ Undo ∷ Redo ∷ Revert ∷ Adopt ∷ Write ∷ History ∷ Show ∷ Forget ∷ []
 
 -- the words are those after the program's name, and the first of them is a tool
 abbrev pub plain_usage : App

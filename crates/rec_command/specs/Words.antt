@@ -23,13 +23,13 @@ use Rattle.rec_tools.specs.declared.request.EditRequest.TheVariants.{Insert, Rep
 use Rattle.rec_tools.specs.declared.request.Look.{Look}
 use Rattle.rec_tools.specs.declared.request.Look.TheVariants.{Show, Info, Check, History, Diff, Log}
 use Rattle.rec_tools.specs.declared.request.Change.TheVariants.{Edit, Batch, Undo, Redo, Revert, Forget}
-use Rattle.rec_tools.specs.declared.request.Change.TheVariants.{Adopt}
+use Rattle.rec_tools.specs.declared.request.Change.TheVariants.{Adopt, Write}
 use Rattle.rec_tools.specs.Asking.{selection_for}
 use Rattle.rec_disk.specs.Paths.{AreApart}
 use Rattle.rec_command.specs.declared.args.Order.{Order}
 use Rattle.rec_command.specs.declared.args.Order.TheVariants.{Look as Looks, Change as Changes, Preview as Previews}
 use Rattle.rec_command.specs.declared.args.ChangeOrder.{ChangeOrder}
-use Rattle.rec_command.specs.declared.args.ChangeOrder.TheVariants.{Whole, BatchAt, AdoptAt, Through}
+use Rattle.rec_command.specs.declared.args.ChangeOrder.TheVariants.{Whole, BatchAt, AdoptAt, WriteAt, Through}
 use Rattle.rec_command.specs.declared.args.CommandLine.{CommandLine}
 use Rattle.rec_command.specs.declared.args.JournalPath.{JournalPath}
 use Rattle.rec_command.specs.declared.args.JournalPath.TheVariants.{Unused, Default, Given}
@@ -37,7 +37,8 @@ use Rattle.rec_command.specs.declared.tools.Tool.{Tool}
 use Rattle.rec_command.specs.declared.tools.Tool.TheVariants.{RecSel, RecInf, RecFix, RecIns, RecDel, RecSet}
 use Rattle.rec_command.specs.declared.tools.Tool.TheVariants.{Batch as ByBatch, Undo as ByUndo, Redo as ByRedo}
 use Rattle.rec_command.specs.declared.tools.Tool.TheVariants.{Revert as ByRevert, History as ByHistory}
-use Rattle.rec_command.specs.declared.tools.Tool.TheVariants.{Show as ByShow, Forget as ByForget, Adopt as ByAdopt}
+use Rattle.rec_command.specs.declared.tools.Tool.TheVariants.{Show as ByShow, Forget as ByForget}
+use Rattle.rec_command.specs.declared.tools.Tool.TheVariants.{Adopt as ByAdopt, Write as ByWrite}
 use Rattle.rec_command.specs.Usage.{name_of, usage}
 
 -- ---- the options
@@ -199,12 +200,18 @@ AsksLook tool options (Log style) =
 AsksLook tool options (Diff number style) =
     (tool ≡ ByShow) × IsEditGiven (before_file_given options) number × IsStyle options style
 
--- the change that they ask for; a batch and an adoption have their texts in files
+-- standard input is read for one of the texts of `write` at most
+abbrev pub ReadsInputOnce : List Row → Type 0
+ReadsInputOnce options =
+    first_of (codes "new") options ≡ Some (codes "-") → first_of (codes "over") options ≡ Some (codes "-") → ⊥
+
+-- the change that they ask for; a batch, an adoption and a whole text have theirs in files
 abbrev pub AsksChange : Tool → List Row → ChangeOrder → Type 0
 AsksChange tool options (Whole (Edit edit force)) =
     AsksEdit tool options edit × (force ≡ has_flag (codes "force") options)
 AsksChange tool options (Whole (Batch text force)) = ⊥
 AsksChange tool options (Whole (Adopt old)) = ⊥
+AsksChange tool options (Whole (Write text over force)) = ⊥
 AsksChange tool options (Whole (Undo number)) =
     (tool ≡ ByUndo) × IsEditGiven (first_of (codes "through") options) None × (number ≡ None)
 AsksChange tool options (Whole (Redo number)) =
@@ -220,6 +227,10 @@ AsksChange tool options (BatchAt path force) =
     × (force ≡ has_flag (codes "force") options)
 AsksChange tool options (AdoptAt old) =
     (tool ≡ ByAdopt) × (option_map string_bytes old ≡ before_file_given options)
+AsksChange tool options (WriteAt new over force) =
+    (tool ≡ ByWrite) × (first_of (codes "new") options ≡ Some (string_bytes new))
+    × (option_map string_bytes over ≡ first_of (codes "over") options) × ReadsInputOnce options
+    × (force ≡ has_flag (codes "force") options)
 AsksChange tool options (Through Backward number) =
     (tool ≡ ByUndo) × IsEditGiven (first_of (codes "through") options) (Some number)
 AsksChange tool options (Through Forward number) =

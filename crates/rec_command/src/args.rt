@@ -24,7 +24,7 @@ mod style;
 mod usage;
 
 use crate::tools::Tool;
-use adopting::adopt_order;
+use adopting::{adopt_order, write_order};
 use clap::ArgMatches;
 use editing::{batch_order, deletion, edit_order, insertion, recfix_order, setting};
 use forgetting::forget_order;
@@ -77,9 +77,18 @@ pub enum ChangeOrder {
     /// One that the words give whole.
     Whole(Change),
     /// A batch, whose text is that of the file of this path.
-    BatchAt { path: String, force: bool },
+    BatchAt {
+        path: String,
+        force: bool,
+    },
     /// An adoption, whose text before is that of the file of this path, where one is given.
     AdoptAt(Option<String>),
+    /// A whole text, that of the file of this path, where FILE has that of another one, if one is given.
+    WriteAt {
+        path: String,
+        over: Option<String>,
+        force: bool,
+    },
     /// Moves that way, by the nearest edit and those after it, as far as the edit of this number.
     Through(Direction, usize),
 }
@@ -162,6 +171,7 @@ fn order_of(alloc: Global, tool: Tool, options: &ArgMatches) -> Result<Order, Re
         Tool::Redo => redo_order(options),
         Tool::Revert => revert_order(options),
         Tool::Adopt => adopt_order(alloc, options),
+        Tool::Write => write_order(alloc, options),
         Tool::History => history_order(alloc, options),
         Tool::Show => show_order(alloc, options),
         Tool::Forget => forget_order(options),

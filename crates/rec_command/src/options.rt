@@ -384,6 +384,31 @@ pub const ADOPT: [Argument; 5] = [
     },
 ];
 
+pub const WRITE: [Argument; 7] = [
+    Argument {
+        written: Written::Name,
+        name: "over",
+        takes: Takes::Value("OLD"),
+        help: "Only where FILE still has the text of OLD",
+    },
+    Argument {
+        written: Written::Name,
+        name: "force",
+        takes: Takes::Nothing,
+        help: "Write it even if it is empty, or breaks the rules",
+    },
+    DRY_RUN,
+    UNIFIED,
+    JOURNAL,
+    Argument {
+        written: Written::NeededWord,
+        name: "new",
+        takes: Takes::Value("NEW"),
+        help: "The new text; - is standard input",
+    },
+    FILE,
+];
+
 pub const HISTORY: [Argument; 4] = [
     Argument {
         written: Written::Name,

@@ -10,6 +10,7 @@ use crate::args::help::{
     FORGET_HELP, HISTORY_HELP, RECDEL_ABOUT, RECDEL_HELP, RECFIX_ABOUT, RECFIX_HELP, RECINF_HELP,
     RECINS_ABOUT, RECINS_HELP, RECINS_USAGE, RECSEL_HELP, RECSET_ABOUT, RECSET_HELP, RECSET_USAGE,
     REDO_HELP, REVERT_ABOUT, REVERT_HELP, SHOW_ABOUT, SHOW_HELP, SHOW_USAGE, UNDO_HELP,
+    WRITE_ABOUT, WRITE_HELP,
 };
 use crate::options;
 use crate::options::Argument;
@@ -28,13 +29,14 @@ pub enum Tool {
     Redo,
     Revert,
     Adopt,
+    Write,
     History,
     Show,
     Forget,
 }
 
 /// All tools, in the order of help.
-pub static TOOLS: [Tool; 14] = [
+pub static TOOLS: [Tool; 15] = [
     Tool::RecSel,
     Tool::RecInf,
     Tool::RecFix,
@@ -46,6 +48,7 @@ pub static TOOLS: [Tool; 14] = [
     Tool::Redo,
     Tool::Revert,
     Tool::Adopt,
+    Tool::Write,
     Tool::History,
     Tool::Show,
     Tool::Forget,
@@ -165,6 +168,15 @@ static ADOPT: Usage = Usage {
     after_help: ADOPT_HELP,
 };
 
+static WRITE: Usage = Usage {
+    name: "write",
+    arguments: &options::WRITE,
+    about: "Gives the file a new text, as one edit",
+    long_about: Some(WRITE_ABOUT),
+    usage: None,
+    after_help: WRITE_HELP,
+};
+
 static HISTORY: Usage = Usage {
     name: "history",
     arguments: &options::HISTORY,
@@ -210,6 +222,7 @@ impl Tool {
             Tool::Redo => &REDO,
             Tool::Revert => &REVERT,
             Tool::Adopt => &ADOPT,
+            Tool::Write => &WRITE,
             Tool::History => &HISTORY,
             Tool::Show => &SHOW,
             Tool::Forget => &FORGET,

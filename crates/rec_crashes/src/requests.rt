@@ -17,8 +17,14 @@ const ADOPTION: usize = 5;
 /// What another program saved.
 const SAVED: &str = "A: 6\n";
 
+/// The request that gives the file a whole text.
+const WRITING: usize = 6;
+
+/// That text.
+const WRITTEN: &str = "A: 7\n\nA: 6\n";
+
 /// How many requests there are.
-pub const REQUESTS: usize = 7;
+pub const REQUESTS: usize = 8;
 
 /// An edit that can follow each request.
 pub const NEXT: usize = REQUESTS - 1;
@@ -44,6 +50,13 @@ fn change(alloc: Global, number: usize) -> Result<Change, AllocError> {
         ADOPTION => {
             let old = Bytes::copy_of(alloc, FIRST.as_bytes())?;
             return Ok(Change::Adopt(Some(old)));
+        }
+        WRITING => {
+            return Ok(Change::Write {
+                text: Bytes::copy_of(alloc, WRITTEN.as_bytes())?,
+                over: Some(Bytes::copy_of(alloc, SAVED.as_bytes())?),
+                force: false,
+            });
         }
         _ => "Tool: recins\nField: B\nValue: 3\n",
     };

@@ -3,7 +3,7 @@
 /// The paths that a command was given.
 #[derive(Clone, Copy)]
 pub struct About<'a> {
-    /// The path of a batch.
+    /// The path of a batch, or of a new text.
     pub text: Option<&'a str>,
     /// The path of a text before.
     pub old: Option<&'a str>,

@@ -14,7 +14,7 @@ pub fn say_what_is_dropped(
     is_tried: bool,
     said: &mut Explanation,
 ) {
-    let Reply::Edited { dropped, .. } = reply else {
+    let (Reply::Edited { dropped, .. } | Reply::Written { dropped, .. }) = reply else {
         return;
     };
     if dropped == 0 {
@@ -63,8 +63,10 @@ fn begins_anew(events: &[u8]) -> bool {
 
 /// Says how many edits that were undone can't be redone any more once this one is made, if there are such.
 pub fn say_what_was_undone(reply: Reply, events: &[u8], is_tried: bool, said: &mut Explanation) {
-    let (Reply::Edited { number, .. } | Reply::Reverted { number, .. } | Reply::Adopted(number)) =
-        reply
+    let (Reply::Edited { number, .. }
+    | Reply::Reverted { number, .. }
+    | Reply::Adopted(number)
+    | Reply::Written { number, .. }) = reply
     else {
         return;
     };

@@ -4,6 +4,7 @@ ghost use Rattle.rec_explain.specs.Lines.{AreLines, IsShown};
 
 use crate::about::About;
 use crate::explanation::Explanation;
+use crate::lines::line_endings::called;
 use crate::lines::shown::plain;
 use crate::refusal::change_in;
 use rec_text::{Outside, Reason};
@@ -20,6 +21,16 @@ pub fn explain_empty(alloc: Global) -> Vec<u8>
 {
     let mut said = Explanation::new(alloc);
     said.add(&[EMPTY]);
+    said.into_lines()
+}
+
+/// A line that says that the text is empty which a file was to get.
+pub fn explain_no_text(alloc: Global, path: &str) -> Vec<u8>
+    ensures shown { All IsShown result.items }
+    ensures whole { AreLines result.items }
+{
+    let mut said = Explanation::new(alloc);
+    said.add(&[called(if path == "-" { "" } else { path }), ": empty"]);
     said.into_lines()
 }
 
@@ -147,6 +158,13 @@ pub fn explain_other_text<'t>(
             "; its SHA-256 is ",
             end,
         ]),
+    }
+}
+
+/// Says that a file has another text than the one that was given for it.
+pub fn explain_changed(file: &str, old: Option<&str>, said: &mut Explanation) {
+    if let Some(old) = old {
+        said.add(&[file, ": it is no longer as ", old, " has it"]);
     }
 }
 

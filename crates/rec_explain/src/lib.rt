@@ -24,7 +24,7 @@ mod undone;
 mod waiting;
 
 pub use about::About;
-pub use files::explain_empty;
+pub use files::{explain_empty, explain_no_text};
 pub use lines::line_endings::explain_endings;
 pub use moves::explain_through;
 pub use notes::explain_done;

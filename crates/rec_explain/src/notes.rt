@@ -63,8 +63,10 @@ fn events_of(response: &Response) -> &[u8] {
 /// Whether a change may break rules of the file.
 fn is_forced(change: &Change) -> bool {
     match change {
-        Change::Edit { force, .. } | Change::Batch { force, .. } | Change::Revert { force, .. } =>
-            *force,
+        Change::Edit { force, .. }
+        | Change::Batch { force, .. }
+        | Change::Revert { force, .. }
+        | Change::Write { force, .. } => *force,
         _ => false,
     }
 }
@@ -149,6 +151,7 @@ pub fn done(alloc: Global, reply: &Reply) -> Result<String, AllocError> {
         ),
         Reply::Forgotten { older, dropped } => forgotten(alloc, *older, *dropped),
         Reply::Adopted(number) => format!(in alloc; "adopted (edit {number})"),
+        Reply::Written { number, .. } => format!(in alloc; "written (edit {number})"),
         Reply::Shown | Reply::Violated(_) | Reply::Unchanged { .. } => Ok(String::new(alloc)),
     }
 }
@@ -183,6 +186,7 @@ fn would(alloc: Global, reply: &Reply) -> Result<String, AllocError> {
             format!(in alloc; "it would revert edit {edit}, {}", name_of(*tool))
         }
         Reply::Adopted(_) => String::from_str(alloc, "it would be adopted"),
+        Reply::Written { .. } => String::from_str(alloc, "it would be written"),
         Reply::Shown | Reply::Violated(_) | Reply::Unchanged { .. } | Reply::Forgotten { .. } => {
             Ok(String::new(alloc))
         }

@@ -9,7 +9,9 @@ use crate::descriptors::fields::explain_field;
 use crate::descriptors::rules::rule_of;
 use crate::edit_numbers::explain_numbers;
 use crate::explanation::Explanation;
-use crate::files::{explain_drift, explain_history, explain_other_text, explain_unread};
+use crate::files::{
+    explain_changed, explain_drift, explain_history, explain_other_text, explain_unread,
+};
 use crate::lines::bad_lines::{explain_bad_line, explain_open_line};
 use crate::lines::line_endings::called;
 use crate::obstacles::explain_obstacle;
@@ -72,12 +74,25 @@ fn explain_fault(
         (Fault::OtherText, Some(Change::Adopt(_))) => {
             explain_other_text(about.file, about.old, refusal.reason(), said);
         }
+        (Fault::OtherText, Some(Change::Write { .. })) => {
+            explain_changed(about.file, about.old, said);
+        }
         (Fault::NothingToRedo, _) => explain_redo(about, refusal.reason(), said),
         (_, Some(Change::Edit { edit, .. })) => explain_edit(alloc, about, edit, refusal, said),
         (_, Some(Change::Batch { text, .. })) => {
             explain_batch(alloc, about, text.as_slice(), refusal, said);
         }
+        (_, Some(Change::Write { .. })) => explain_reason(alloc, &of_text(about), refusal, said),
         _ => explain_reason(alloc, about, refusal, said),
+    }
+}
+
+/// The same of a text that was given as of a file.
+fn of_text<'a>(about: &About<'a>) -> About<'a> {
+    let path = about.text.unwrap_or("");
+    About {
+        file: if path == "-" { "" } else { path },
+        ..*about
     }
 }
 

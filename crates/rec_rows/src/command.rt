@@ -146,6 +146,13 @@ impl<'w> Cells<'w> {
             Change::Batch { text, .. } => self.read(text),
             Change::Adopt(None) => Ok(()),
             Change::Adopt(Some(old)) => self.read(old),
+            Change::Write { text, over, .. } => {
+                self.read(text)?;
+                match over {
+                    Some(old) => self.read(old),
+                    None => Ok(()),
+                }
+            }
             Change::Undo(_) | Change::Redo(_) | Change::Revert { .. } | Change::Forget { .. } => {
                 Ok(())
             }
@@ -172,6 +179,11 @@ fn change_of(alloc: Global, order: ChangeOrder) -> Result<Change, AllocError> {
             Ok(Change::Batch { text, force })
         }
         ChangeOrder::AdoptAt(old) => Ok(Change::Adopt(word_given(alloc, &old)?)),
+        ChangeOrder::WriteAt { path, over, force } => Ok(Change::Write {
+            text: Bytes::copy_of(alloc, path.as_bytes())?,
+            over: word_given(alloc, &over)?,
+            force,
+        }),
         ChangeOrder::Through(direction, number) => Ok(move_through(direction, number)),
     }
 }

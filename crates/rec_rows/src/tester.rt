@@ -51,6 +51,7 @@ fn say(said: &mut String, answer: &Result<Reply, Refusal>) -> Result<(), AllocEr
             "forgotten {older}, dropped {dropped}"
         ),
         Ok(Reply::Adopted(number)) => write!(said, "adopted {number}"),
+        Ok(Reply::Written { number, .. }) => write!(said, "written {number}"),
         Err(refusal) => {
             let fault = refusal.fault();
             write!(said, "{} {fault}", fault.number())

@@ -58,6 +58,7 @@ fn is_change(answer: &str) -> bool {
         "reverted ",
         "forgotten ",
         "adopted ",
+        "written ",
     ]
     .iter()
     .any(|prefix| answer.starts_with(prefix) && answer != "forgotten 0")

@@ -12,16 +12,16 @@ use Rattle.rec_journal.specs.History.{Opened, Opens}
 use Rattle.rec_edit.specs.declared.answer.Edited.{Edited}
 use Rattle.rec_diff.specs.declared.style.DiffStyle.{DiffStyle}
 use Rattle.rec_tools.specs.declared.request.Reply.{Reply}
-use Rattle.rec_tools.specs.declared.request.Reply.TheVariants.{Shown, Edited as EditedReply, Redone, Reverted}
+use Rattle.rec_tools.specs.declared.request.Reply.TheVariants.{Shown, Edited as EditedReply, Redone, Reverted, Written}
 use Rattle.rec_tools.specs.declared.request.Change.{Change}
 use Rattle.rec_tools.specs.declared.request.Change.TheVariants.{Undo, Redo, Revert, Forget}
 use Rattle.rec_tools.specs.declared.request.Look.TheVariants.{History}
 use Rattle.rec_tools.specs.declared.request.Request.{Request}
 use Rattle.rec_tools.specs.Home.{Contents, written}
-use Rattle.rec_tools.specs.Requests.{AskedChange, editing, adopting, Asked, showing, changing, previewing}
+use Rattle.rec_tools.specs.Requests.{AskedChange, editing, adopting, writing, Asked, showing, changing, previewing}
 use Rattle.rec_tools.specs.Requests.{look_of, change_of, asked_of}
 use Rattle.rec_tools.specs.Outcomes.{Outcome, IsMade, IsChangeOutcome, IsRequestOutcome, printing, IsEndFor, Adopts}
-use Rattle.rec_tools.specs.Outcomes.{edited_by_lines}
+use Rattle.rec_tools.specs.Outcomes.{IsWritten, edited_by_lines}
 use Rattle.rec_tools.specs.Attempts.{Answer}
 use Rattle.rec_tools.specs.Machine.{Entry, State, IsMachineStep, Stands, first_state, state_after_edit}
 
@@ -43,11 +43,12 @@ FirstStands = (file : List ℕ) → Stands (record { file = file; journal = [] }
 
 -- ---- a preview
 
--- the reply to a change that made an edit, of which a revert is one too, or made one again
+-- the reply to a change that made an edit, of which a revert and a text that is written are two, or made one again
 abbrev pub MadeAnEdit : Reply → Type 0
 MadeAnEdit (EditedReply changed number dropped) = Unit {0}
 MadeAnEdit (Redone number tool) = Unit {0}
 MadeAnEdit (Reverted edit tool number) = Unit {0}
+MadeAnEdit (Written number dropped) = Unit {0}
 MadeAnEdit _ = ⊥
 
 -- The preview of a change that makes an edit, or makes one again, prints what is shown of the newest edit once the
@@ -65,8 +66,8 @@ abbrev pub BringsBack : Contents → AskedChange → List ℕ → Type 0
 BringsBack c change text = (r : Result Outcome Fault) → IsChangeOutcome c change r
     → (outcome : Outcome) × (r ≡ Ok outcome) × ((written c outcome.writes).file ≡ text)
 
--- After an edit, a batch, a revert or a redo that was written, an undo brings the file back as it was, byte for byte;
--- also where the file had been changed outside.
+-- After an edit, a batch, a revert, a whole text or a redo that was written, an undo brings the file back as it was,
+-- byte for byte; also where the file had been changed outside.
 abbrev pub UndoBringsBack : Type 0
 UndoBringsBack = (c : Contents) (change : Change) (done : Outcome)
     → done.writes ≢ [] → MadeAnEdit done.reply → IsChangeOutcome c (change_of change) (Ok done)
@@ -85,9 +86,10 @@ abbrev pub IsPreview : Asked → Type 0
 IsPreview (previewing style change) = Unit {0}
 IsPreview _ = ⊥
 
--- the edits that are asked for make this of a text, told with this tool
+-- what is asked for makes this of a text, told with this tool
 abbrev pub MakesOf : Asked → List ℕ → Tool → Edited → Type 0
 MakesOf (changing (editing IsEdit)) text tool made = IsMade IsEdit text (Ok (tool, made))
+MakesOf (changing (writing force over new)) text tool made = IsWritten force over new text (Ok (tool, made))
 MakesOf _ text tool made = ⊥
 
 -- an edit begins the history anew, with the outside text as the one before it
@@ -100,7 +102,7 @@ outside_state c o tool steps text = record {
   made = o.made + 1;
 }
 
--- the history begins anew with the edits that are asked for, as they are made of the outside text
+-- the history begins anew with the edit that is asked for, as it is made of the outside text
 pub record BeginsAnew (c : Contents) (o : Opened) (asked : Asked) (outcome : Outcome) : Type 0 where
   pub tool : Tool
   pub made : Edited

@@ -4,12 +4,12 @@ use Rattle.std.specs.Prelude.{◌≡◌, ◌≢◌, ◌⊎◌, ℕ, ◌+◌, ◌
 use Rattle.std.specs.Prelude.{None, option_map, take, Result, Ok, Err, if◌then◌else◌}
 use Rattle.std.specs.Option.{unwrap_or}
 use Rattle.rec_text.specs.declared.fault.Fault.{Fault}
-use Rattle.rec_text.specs.declared.fault.Fault.TheVariants.{BadPattern, DigestClash, Drifted, NoSuchEdit}
+use Rattle.rec_text.specs.declared.fault.Fault.TheVariants.{BadPattern, DigestClash, Drifted, NoSuchEdit, OtherText}
 use Rattle.rec_journal.specs.declared.patch.Direction.{Direction}
 use Rattle.rec_journal.specs.declared.patch.Direction.TheVariants.{Forward, Backward}
 use Rattle.rec_journal.specs.declared.event.Revision.{Revision}
 use Rattle.rec_journal.specs.declared.event.Tool.{Tool}
-use Rattle.rec_journal.specs.declared.event.Tool.TheVariants.{Adopt as ByAdopt}
+use Rattle.rec_journal.specs.declared.event.Tool.TheVariants.{Adopt as ByAdopt, Write as ByWrite}
 use Rattle.rec_journal.specs.declared.ending.End.{End}
 use Rattle.rec_journal.specs.Ending.{digest_of, HasEnd, IsEndOf}
 use Rattle.rec_journal.specs.declared.plan.Plan.{Plan}
@@ -23,11 +23,12 @@ use Rattle.rec_tools.specs.declared.decision.Decision.{Decision}
 use Rattle.rec_tools.specs.declared.decision.Decision.TheVariants.{Stay, Put, Adopt}
 use Rattle.rec_edit.specs.declared.answer.Edited.{Edited}
 use Rattle.rec_edit.specs.Batch.{IsBatchOutcome}
+use Rattle.rec_edit.specs.Outcome.{IsSoundUnlessForced}
 use Rattle.rec_check.specs.DescribedTexts.{IsDescribedText}
 use Rattle.rec_tools.specs.declared.request.Request.{Request}
 use Rattle.rec_tools.specs.declared.request.Reply.{Reply}
 use Rattle.rec_tools.specs.declared.request.Reply.TheVariants.{Shown, Edited as EditedReply, Unchanged, Undone, Redone}
-use Rattle.rec_tools.specs.declared.request.Reply.TheVariants.{Reverted, Forgotten, Adopted}
+use Rattle.rec_tools.specs.declared.request.Reply.TheVariants.{Reverted, Forgotten, Adopted, Written}
 use Rattle.rec_tools.specs.Home.{Contents, Write, writes_by, written}
 use Rattle.rec_tools.specs.Reverting.{IsRevertOf}
 use Rattle.rec_tools.specs.Steps.{Then}
@@ -35,7 +36,7 @@ use Rattle.rec_diff.specs.declared.style.DiffStyle.{DiffStyle}
 use Rattle.rec_diff.specs.Comparing.{step_between}
 use Rattle.rec_diff.specs.Diffs.{IsDiff}
 use Rattle.rec_tools.specs.Printouts.{Printout, IsShownText, printed_history, IsShownEdit, IsWholeLog}
-use Rattle.rec_tools.specs.Requests.{Edits, AskedChange, editing, moving, reverting, forgetting, adopting}
+use Rattle.rec_tools.specs.Requests.{Edits, AskedChange, editing, moving, reverting, forgetting, adopting, writing}
 use Rattle.rec_tools.specs.Requests.{Asked, looking, listing, showing, listing_changes, changing, previewing, asked_of}
 
 -- ---- outcomes
@@ -112,14 +113,22 @@ edit_reply number dropped tool made = EditedReply made.changed number dropped
 abbrev pub revert_reply : ℕ → ℕ → Tool → Edited → Reply
 revert_reply edit number tool made = Reverted edit tool number
 
--- what is made of a file that reads and of its history is put in place
-abbrev pub IsPutBy : (Opened → Result (Tool × Edited) Fault → Type 0) → (Opened → Tool → Edited → Reply) → Contents
+-- the reply to a text that is written, by the number of its event and how many edits are dropped
+abbrev pub write_reply : ℕ → ℕ → Tool → Edited → Reply
+write_reply number dropped tool made = Written number dropped
+
+-- what is made of a file and of its history is put in place
+abbrev pub IsPutOn : (Opened → Result (Tool × Edited) Fault → Type 0) → (Opened → Tool → Edited → Reply) → Contents
     → Result Outcome Fault → Type 0
-IsPutBy MakesOf reply_for c =
-    Then (IsDescribedText c.file) (λ _.
+IsPutOn MakesOf reply_for c =
     Then (IsOpening c.file c.journal) (λ o.
     Then (MakesOf o) (λ (tool, made).
-    IsEditOutcome o c tool made (reply_for o tool made))))
+    IsEditOutcome o c tool made (reply_for o tool made)))
+
+-- the same of a file that reads
+abbrev pub IsPutBy : (Opened → Result (Tool × Edited) Fault → Type 0) → (Opened → Tool → Edited → Reply) → Contents
+    → Result Outcome Fault → Type 0
+IsPutBy MakesOf reply_for c = Then (IsDescribedText c.file) (λ _. IsPutOn MakesOf reply_for c)
 
 -- ---- a move
 
@@ -168,11 +177,29 @@ IsForgetting n dropping o c (Ok outcome) = (o.drifted ≡ false)
     × IsLetGo (length o.past - n) (if dropping then lost_edits o else 0) o c outcome
 IsForgetting n dropping o c (Err fault) = (fault ≡ Drifted) × (o.drifted ≡ true)
 
--- ---- what another program changed
+-- ---- a whole text
 
 -- the edit by a tool that makes one text the other, by lines
 abbrev pub edited_by_lines : Tool → List ℕ → List ℕ → Edited
 edited_by_lines tool old new = record { steps = step_between tool old new; text = new; changed = 0; chosen = None }
+
+-- the text here is still the one that is given, if one is
+abbrev pub IsStill : Option (List ℕ) → List ℕ → Result (Unit {0}) Fault → Type 0
+IsStill over here (Ok x) = unwrap_or over here ≡ here
+IsStill over here (Err fault) = (fault ≡ OtherText) × (unwrap_or over here ≢ here)
+
+-- a text reads, and keeps its rules unless that is forced
+abbrev pub MayStand : Bool → List ℕ → Result (Unit {0}) Fault → Type 0
+MayStand force text = Then (IsDescribedText text) (λ _. IsSoundUnlessForced force text)
+
+-- a whole text as an edit of the one here, which needn't read
+abbrev pub IsWritten : Bool → Option (List ℕ) → List ℕ → List ℕ → Result (Tool × Edited) Fault → Type 0
+IsWritten force over text here =
+    Then (IsStill over here) (λ _.
+    Then (MayStand force text) (λ _ answer.
+    answer ≡ Ok (ByWrite, edited_by_lines ByWrite here text)))
+
+-- ---- what another program changed
 
 -- The history that counts, as it is with its end for the file, goes on with one edit from there to the file. The
 -- journal alone is put in place.
@@ -213,6 +240,8 @@ IsChangeOutcome c (reverting number force) =
 IsChangeOutcome c (moving direction through) = Then (IsOpening c.file c.journal) (λ o. IsMove direction through o c)
 IsChangeOutcome c (forgetting n dropping) = Then (IsOpening c.file c.journal) (λ o. IsForgetting n dropping o c)
 IsChangeOutcome c (adopting old) = Then (IsOpening c.file c.journal) (λ o. IsAdoption old o c)
+IsChangeOutcome c (writing force over text) =
+    IsPutOn (λ _. IsWritten force over text c.file) (λ o. write_reply o.next o.dropped) c
 
 -- ---- what would change
 

@@ -1,6 +1,7 @@
 -- What each request asks for: a look at the file, at its history or at what an edit made; a change, which is an edit, a
--- move through the history, a revert, that old edits are forgotten, or that what another program changed becomes an
--- edit; or what a change would make of the file. Each kind has one case in what follows, and each request one row here.
+-- move through the history, a revert, that old edits are forgotten, that what another program changed becomes an edit,
+-- or that the file gets a whole text; or what a change would make of the file. Each kind has one case in what follows,
+-- and each request one row here.
 use Rattle.std.specs.Prelude.{◌≡◌, ◌↔◌, ℕ, Bool, List, [], ◌∷◌, Option, Result, Ok, Err}
 use Rattle.std.specs.List.{AllZip}
 use Rattle.rec_text.specs.declared.fault.Fault.{Fault}
@@ -19,6 +20,7 @@ use Rattle.rec_tools.specs.declared.request.Look.{Look}
 use Rattle.rec_tools.specs.declared.request.Look.TheVariants.{Show, Info, Check, History, Diff, Log}
 use Rattle.rec_tools.specs.declared.request.Change.{Change}
 use Rattle.rec_tools.specs.declared.request.Change.TheVariants.{Edit, Batch, Undo, Redo, Revert, Forget, Adopt}
+use Rattle.rec_tools.specs.declared.request.Change.TheVariants.{Write}
 use Rattle.rec_tools.specs.declared.request.Request.{Request}
 use Rattle.rec_tools.specs.declared.request.Request.TheVariants.{Look as Looks, Change as Changes, Preview as Previews}
 use Rattle.rec_check.specs.Violations.{AreViolationsOf}
@@ -47,6 +49,8 @@ pub data AskedChange : Type 1 where
   -- what another program changed becomes an edit, on the end of the history, which is found from this text or from the
   -- file's own
   adopting : Option (List ℕ) → AskedChange
+  -- the file gets a text, with force or without; where another text is given too, only if it still has that one
+  writing : Bool → Option (List ℕ) → List ℕ → AskedChange
 
 -- what a request asks for
 pub data Asked : Type 1 where
@@ -136,6 +140,7 @@ change_of (Redo through) = moving Forward through
 change_of (Revert number force) = reverting number force
 change_of (Forget newest dropped) = forgetting newest dropped
 change_of (Adopt old) = adopting old
+change_of (Write text over force) = writing force over text
 
 -- what a request asks for
 abbrev pub asked_of : Request → Asked

@@ -5,7 +5,7 @@ ghost use Rattle.rec_text.specs.Faults.{UnlessMemory};
 ghost use Rattle.rec_journal.specs.History.{IsOpening, lost_edits};
 ghost use Rattle.rec_journal.specs.Plans.{nothing_there};
 ghost use Rattle.rec_tools.specs.Steps.{IsRefusal};
-ghost use Rattle.rec_tools.specs.Requests.{editing, moving, reverting, forgetting, change_of};
+ghost use Rattle.rec_tools.specs.Requests.{editing, moving, reverting, forgetting, writing, change_of};
 ghost use Rattle.rec_tools.specs.Outcomes.{IsMade, IsEditOutcome, Decides, outcome_in, reply_of};
 ghost use Rattle.rec_tools.specs.declared.decision.Decision.TheVariants.{Put};
 ghost use Rattle.rec_tools.specs.proving.Courses.{HasCourse};
@@ -18,6 +18,7 @@ use crate::history::history_of;
 use crate::request::{Change, EditRequest, Reply};
 use crate::reverting::reverted;
 use crate::telling::{refused_move, refused_on};
+use crate::writing::written;
 use rec_check::RecFile;
 use rec_edit::Edited;
 use rec_journal::{
@@ -223,6 +224,44 @@ fn decide_revert(
     decide_revert_on(alloc, &hashed, journal, number, force)
 }
 
+/// Decides what a whole text makes of a file that was hashed and a journal.
+fn decide_write_on(
+    alloc: Global,
+    file: &Hashed<'_>,
+    journal: &[u8],
+    text: &[u8],
+    over: &Option<Bytes>,
+    force: bool,
+) -> Result<Decision, Refusal>
+    ensures found { UnlessMemory result (Decides file.now journal.now (writing force over.now text.now)) }
+    ensures course { IfOk result (HasCourse file.now journal.now) }
+    ensures refusals { IfErr result IsRefusal }
+{
+    let history = History::load(alloc, file, journal)?;
+    let (tool, edited) = written(alloc, file.text(), text, over, force)?;
+    let number = history.next();
+    let dropped = history.dropped();
+    let reply = Reply::Written { number, dropped };
+    put_edited(alloc, &history, file, journal, tool, edited, reply)
+}
+
+/// Decides what a whole text makes of a file and a journal.
+fn decide_write(
+    alloc: Global,
+    file: &[u8],
+    journal: &[u8],
+    text: &[u8],
+    over: &Option<Bytes>,
+    force: bool,
+) -> Result<Decision, Refusal>
+    ensures found { UnlessMemory result (Decides file.now journal.now (writing force over.now text.now)) }
+    ensures course { IfOk result (HasCourse file.now journal.now) }
+    ensures refusals { IfErr result IsRefusal }
+{
+    let hashed = Hashed::of(alloc, file)?;
+    decide_write_on(alloc, &hashed, journal, text, over, force)
+}
+
 /// The reply to a move by the edit of this number and tool.
 fn reply_of(direction: Direction, number: usize, tool: Tool) -> Reply
     ensures { result ≡ reply_of direction number tool }
@@ -338,5 +377,8 @@ pub fn decide(
             decide_forgetting(alloc, file, journal, *newest as usize, *dropped)
         }
         Change::Adopt(old) => decide_adoption(alloc, file, journal, old),
+        Change::Write { text, over, force } => {
+            decide_write(alloc, file, journal, text.as_slice(), over, *force)
+        }
     }
 }

@@ -25,6 +25,7 @@ mod selecting;
 mod showing;
 mod telling;
 mod through;
+mod writing;
 
 pub use batches::{batch_edit_at, batch_edits};
 pub use done::{added_violations, leaves_comments_out};

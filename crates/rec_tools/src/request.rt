@@ -147,10 +147,16 @@ pub enum Look {
 #[derive(Drop)]
 pub enum Change {
     /// Makes an edit. Only with `force` may the file break the rules of its record sets afterwards.
-    Edit { edit: EditRequest, force: bool },
+    Edit {
+        edit: EditRequest,
+        force: bool,
+    },
     /// Makes the edits that a rec text lists, one after another, as one edit. Only with `force` may one of them delete all
     /// records of a set, and may the file break the rules of its record sets after the last.
-    Batch { text: Bytes, force: bool },
+    Batch {
+        text: Bytes,
+        force: bool,
+    },
     /// Takes the newest edit back, where a number is named only if the edit of that number can be taken back too.
     Undo(Option<usize>),
     /// Makes the edit that was taken back last again, where a number is named only if the edit of that number can be made
@@ -158,13 +164,26 @@ pub enum Change {
     Redo(Option<usize>),
     /// Takes the edit of this number back and leaves the later ones, as an edit of its own. Only with `force` may the file break
     /// the rules of its record sets afterwards.
-    Revert { number: usize, force: bool },
+    Revert {
+        number: usize,
+        force: bool,
+    },
     /// Forgets all but the newest of the edits that can be taken back; those that can be made again stay. With `dropped`
     /// the edits go too that can be neither taken back nor made again any more.
-    Forget { newest: u32, dropped: bool },
+    Forget {
+        newest: u32,
+        dropped: bool,
+    },
     /// Makes the change by another program since the last edit an edit of the history, of which this is some text. Where none is
     /// given the file's own text is looked for in it. The file stays as it is.
     Adopt(Option<Bytes>),
+    /// Gives the file this text, as one edit; where a text is named that it was made from, only if the file still has that one.
+    /// Only with `force` may it break the rules of its record sets. The file itself needn't read.
+    Write {
+        text: Bytes,
+        over: Option<Bytes>,
+        force: bool,
+    },
 }
 
 /// A request on a file and its journal.
@@ -218,4 +237,11 @@ pub enum Reply {
     },
     /// What another program changed became the edit of this number.
     Adopted(usize),
+    /// The file got a whole text.
+    Written {
+        /// The edit's number in the history.
+        number: usize,
+        /// How many edits can't be undone any more, since the file was changed outside after them.
+        dropped: usize,
+    },
 }

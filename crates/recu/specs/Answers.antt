@@ -16,7 +16,8 @@ use Rattle.rec_disk.specs.Lasting.{shown}
 use Rattle.rec_disk.specs.Paths.{journal_of}
 use Rattle.rec_journal.specs.declared.patch.Direction.{Direction}
 use Rattle.rec_diff.specs.declared.style.DiffStyle.{DiffStyle}
-use Rattle.rec_tools.specs.declared.request.Change.TheVariants.{Batch, Adopt}
+use Rattle.rec_tools.specs.declared.request.Change.{Change}
+use Rattle.rec_tools.specs.declared.request.Change.TheVariants.{Batch, Adopt, Write}
 use Rattle.rec_tools.specs.declared.request.Request.{Request}
 use Rattle.rec_tools.specs.declared.request.Request.TheVariants.{Look as Looks, Change as Changes, Preview as Previews}
 use Rattle.rec_tools.specs.declared.request.Reply.{Reply}
@@ -36,7 +37,8 @@ use Rattle.rec_command.specs.declared.args.Order.{Order}
 use Rattle.rec_command.specs.declared.args.Order.TheVariants.{Look as LookOrder, Change as ChangeOrder}
 use Rattle.rec_command.specs.declared.args.Order.TheVariants.{Preview as PreviewOrder}
 use Rattle.rec_command.specs.declared.args.ChangeOrder.{ChangeOrder as OrderedChange}
-use Rattle.rec_command.specs.declared.args.ChangeOrder.TheVariants.{Whole, BatchAt, AdoptAt, Through as ThroughOrder}
+use Rattle.rec_command.specs.declared.args.ChangeOrder.TheVariants.{Whole, BatchAt, AdoptAt, WriteAt}
+use Rattle.rec_command.specs.declared.args.ChangeOrder.TheVariants.{Through as ThroughOrder}
 use Rattle.rec_command.specs.declared.args.CommandLine.{CommandLine}
 use Rattle.rec_command.specs.declared.args.JournalPath.{JournalPath}
 use Rattle.rec_command.specs.declared.args.JournalPath.TheVariants.{Unused, Default, Given}
@@ -68,7 +70,29 @@ IsWorkOf leads story (BatchAt path force) (Ok work) = (text : List ℕ)
     × IsTextAt leads story (string_bytes path) text × (work ≡ Makes (Batch text force))
 IsWorkOf leads story (AdoptAt old) (Ok work) = (text : Option (List ℕ))
     × IsTextAtIf leads story (option_map string_bytes old) text × (work ≡ Makes (Adopt text))
+IsWorkOf leads story (WriteAt path over force) (Ok work) = (text : List ℕ) × (before : Option (List ℕ))
+    × IsTextAt leads story (string_bytes path) text
+    × IsTextAtIf leads story (option_map string_bytes over) before × (work ≡ Makes (Write text before force))
 IsWorkOf leads story _ (Err fault) = (fault ≡ OutOfMemory) ⊎ (fault ≡ StoreFailed)
+
+-- a change gives the file an empty text, and not by force
+abbrev pub IsEmptying : Change → Type 0
+IsEmptying (Write text over force) = (text ≡ []) × (force ≡ false)
+IsEmptying _ = ⊥
+
+-- so does what is made, or printed
+abbrev pub Empties : Job → Type 0
+Empties (Once (Changes change)) = IsEmptying change
+Empties (Once (Previews change style)) = IsEmptying change
+Empties _ = ⊥
+
+-- it does so only with a file that is empty, where the disk tells what stands there
+abbrev pub EmptiesEmpty : (List ℕ → List ℕ) → Option Story → Job → Option (List ℕ) → Type 0
+EmptiesEmpty leads story job file = Empties job → IsTextAtIf leads story file (Some [])
+
+-- it does so, and is refused; or the file can't be read, or there is no memory for it
+abbrev pub IsRefusedAsEmpty : Job → Fault → Type 0
+IsRefusedAsEmpty job fault = Empties job × ((fault ≡ OutOfMemory) ⊎ (fault ≡ StoreFailed))
 
 -- a change that is made, and one of which is printed what it would change
 abbrev pub job_done : Work → Job
@@ -103,14 +127,17 @@ ArePathsOf place leads link story file (Given path) found =
     found ≡ (if is_nil (string_bytes path) then Err StoreFailed else Ok (file, Some (string_bytes path)))
 ArePathsOf place leads link story file journal found = found ≡ Ok (file, None)
 
--- what a line asks for, with the paths of the file and the journal of the home; or there is none, or no such paths
+-- what a line asks for, with the paths of the file and the journal of the home; or there is none, or no such paths, or
+-- it is an empty text for a file
 abbrev pub IsFoundFor : (List ℕ → List ℕ) → (List ℕ → List ℕ) → (List ℕ → Option (List ℕ)) → Option Story
     → CommandLine → Result (Job × Option (List ℕ) × Option (List ℕ)) Fault → Type 0
 IsFoundFor place leads link story line (Ok found) = IsJobOf leads story line.order (Ok found.0)
     × ArePathsOf place leads link story (option_map string_bytes line.file) line.journal (Ok (found.1, found.2))
+    × EmptiesEmpty leads story found.0 found.1
 IsFoundFor place leads link story line (Err fault) = IsJobOf leads story line.order (Err fault)
     ⊎ ((job : Job) × IsJobOf leads story line.order (Ok job)
-    × ArePathsOf place leads link story (option_map string_bytes line.file) line.journal (Err fault))
+    × (ArePathsOf place leads link story (option_map string_bytes line.file) line.journal (Err fault)
+    ⊎ IsRefusedAsEmpty job fault))
 
 -- something is to be changed
 abbrev pub DoesChange : Job → Type 0

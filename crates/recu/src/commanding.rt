@@ -1,17 +1,18 @@
 //! The answer to a command line, on any disk.
-ghost use Rattle.std.specs.Prelude.{◌≡◌, ◌↔◌, map, option_map, string_bytes, Bool, Result, Option, Some, None, Ok, Err};
-ghost use Rattle.std.specs.Prelude.{IfOk, IfErr, IsSomeAnd, IsTrue};
+ghost use Rattle.std.specs.Prelude.{◌≡◌, ◌≢◌, ◌↔◌, codes, map, option_map, string_bytes, Bool, Result, Option, Some, None, Ok, Err};
+ghost use Rattle.std.specs.Prelude.{IfOk, IfErr, IsSomeAnd, IsTrue, true, []};
 ghost use Rattle.rec_text.specs.declared.fault.Fault.{Fault as FaultOf};
 ghost use Rattle.rec_tools.specs.declared.request.Reply.{Reply as ReplyOf};
 ghost use Rattle.rec_command.specs.Status.{Says};
 ghost use Rattle.recu.specs.Answers.{out_of, HasLostReader, IsAnswerTo, IsAnswerToRefused, IsDone, IsFinished};
 ghost use Rattle.recu.specs.Answers.{ArePathsOf, IsCarriedOut, IsFoundFor, IsHomeFor, IsJobOf};
+ghost use Rattle.recu.specs.Answers.{Empties, EmptiesEmpty, IsRefusedAsEmpty};
 ghost use Rattle.recu.specs.Answers.{IsTextAt, IsTextAtIf, IsWorkOf};
 ghost use Rattle.rec_text.specs.Faults.{IsOkUnlessEither};
 
 use crate::answering::answer_by;
 use crate::job::{Job, Work};
-use crate::saying::{TextPaths, say_empty, say_more, say_waiting};
+use crate::saying::{TextPaths, say_empty, say_more, say_no_text, say_waiting};
 use rec_command::{ChangeOrder, CommandLine, JournalPath, Order, finish, parse};
 use rec_disk::Disk;
 use rec_files::{
@@ -203,7 +204,57 @@ fn task_of<D: Disk>(rt: &HostRuntime, disk: &mut D, line: CommandLine) -> Result
     } = line;
     let (job, texts) = job_of(rt, disk, order)?;
     let paths = paths_of(rt, disk, file, journal)?;
+    require_text(rt, disk, &job, &texts, &paths.file)?;
     Ok(Task { job, texts, paths })
+}
+
+/// Refuses an empty text that isn't forced, where the file isn't empty: most often it is that of a command that failed.
+fn require_text<D: Disk>(
+    rt: &HostRuntime,
+    disk: &mut D,
+    job: &Job,
+    texts: &TextPaths,
+    file: &Option<String>,
+) -> Result<(), Fault>
+    ensures same { D.story disk.new ≡ D.story disk.old }
+    ensures works { D.works disk.old → D.works disk.new }
+    ensures empties { IfOk result (λ x. EmptiesEmpty D.leads (D.story disk.old) job.now
+        (option_map string_bytes file.now)) }
+    ensures refused { IfErr result (IsRefusedAsEmpty job.now) }
+{
+    if !job.empties() || is_empty_at(rt, disk, file)? {
+        return Ok(());
+    }
+    say_no_text(rt, texts);
+    Err(Fault::StoreFailed)
+}
+
+/// Whether there is a file and it is empty.
+fn is_empty_at<D: Disk>(
+    rt: &HostRuntime,
+    disk: &mut D,
+    file: &Option<String>,
+) -> Result<bool, Fault>
+    ensures same { D.story disk.new ≡ D.story disk.old }
+    ensures works { D.works disk.old → D.works disk.new }
+    ensures empty { result ≡ Ok true → IsTextAtIf D.leads (D.story disk.old) (option_map string_bytes file.now)
+        (Some []) }
+    ensures refusals { IsOkUnlessEither result Fault.OutOfMemory Fault.StoreFailed }
+{
+    match file {
+        Some(path) => {
+            let text = text_at(rt, disk, file_path(path.as_str()))?;
+            Ok(text.as_slice().is_empty())
+        },
+        None => Ok(false),
+    }
+}
+
+/// The path of a file where that of a text is asked for, so that `-` isn't standard input.
+fn file_path(path: &str) -> &str
+    ensures { path.now ≢ codes "-" → result.now ≡ path.now }
+{
+    if path == "-" { "./-" } else { path }
 }
 
 /// What an order has done, and the paths of its texts.
@@ -256,6 +307,20 @@ fn work_of<D: Disk>(
                 Work::Once(Change::Adopt(text)),
                 TextPaths { text: None, old },
             ))
+        }
+        ChangeOrder::WriteAt { path, over, force } => {
+            let text = text_at(rt, disk, path.as_str())?;
+            let before = text_at_if(rt, disk, &over)?;
+            let paths = TextPaths {
+                text: Some(path),
+                old: over,
+            };
+            let change = Change::Write {
+                text,
+                over: before,
+                force,
+            };
+            Ok((Work::Once(change), paths))
         }
     }
 }

@@ -1,6 +1,6 @@
 //! What a command line has done.
-ghost use Rattle.std.specs.Prelude.{◌≡◌, ◌≢◌};
-ghost use Rattle.recu.specs.Answers.{job_done, job_tried, DoesChange};
+ghost use Rattle.std.specs.Prelude.{◌≡◌, ◌≢◌, ◌↔◌, IsTrue};
+ghost use Rattle.recu.specs.Answers.{job_done, job_tried, DoesChange, Empties, IsEmptying};
 
 use rec_files::{Access, access_of};
 use rec_tools::{Change, DiffStyle, Direction, Request};
@@ -45,6 +45,16 @@ impl Job {
         }
     }
 
+    /// Whether the file is to get an empty text, and not by force.
+    pub fn empties(&self) -> bool
+        ensures { IsTrue result ↔ Empties self.now }
+    {
+        match self {
+            Job::Once(Request::Change(change) | Request::Preview(change, _)) => is_emptying(change),
+            _ => false,
+        }
+    }
+
     /// What it may do with the two.
     pub fn access(&self) -> Access
         ensures look { result ≡ Access.Look → ¬ DoesChange self.now }
@@ -55,5 +65,15 @@ impl Job {
             Job::Through(_, _) => Access::Change,
             Job::DryThrough(_, _, _) => Access::Look,
         }
+    }
+}
+
+/// Whether a change gives the file an empty text, and not by force.
+fn is_emptying(change: &Change) -> bool
+    ensures { IsTrue result ↔ IsEmptying change.now }
+{
+    match change {
+        Change::Write { text, force, .. } => !*force && text.as_slice().is_empty(),
+        _ => false,
     }
 }

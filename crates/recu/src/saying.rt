@@ -4,8 +4,8 @@ ghost use Rattle.rec_files.specs.Succeeding.{IsShut};
 use crate::job::Job;
 use rec_disk::{Disk, Escaped};
 use rec_explain::{
-    About, explain, explain_done, explain_empty, explain_endings, explain_report, explain_through,
-    explain_waiting,
+    About, explain, explain_done, explain_empty, explain_endings, explain_no_text, explain_report,
+    explain_through, explain_waiting,
 };
 use rec_files::DiskHome;
 use rec_select::write_report;
@@ -28,7 +28,7 @@ pub fn say_waiting(rt: &HostRuntime, job: &Job) {
 /// The paths of the texts that a change was given.
 #[derive(Drop)]
 pub struct TextPaths {
-    /// That of a batch.
+    /// That of a batch, or of a new text.
     pub text: Option<String>,
     /// That of a text before.
     pub old: Option<String>,
@@ -47,6 +47,13 @@ impl TextPaths {
 pub fn say_empty(rt: &HostRuntime, path: &str) {
     if path.is_empty() {
         say(rt, &explain_empty(rt.alloc()));
+    }
+}
+
+/// Says that the text is empty which a file was to get.
+pub fn say_no_text(rt: &HostRuntime, texts: &TextPaths) {
+    if let Some(Some(path)) = told_if(rt, &texts.text) {
+        say(rt, &explain_no_text(rt.alloc(), path.as_str()));
     }
 }
 

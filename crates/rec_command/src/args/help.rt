@@ -70,6 +70,12 @@ pub const ADOPT_ABOUT: &str =
 pub const ADOPT_HELP: &str =
     "OLD stands before FILE. It has the text before the change, or any older text of\nthe history, such as that of the last commit; - is standard input. Without OLD\nthe text of FILE is looked for, which is enough where an older text was brought\nback. The edit is taken back by recu undo FILE.\n\nExamples:\n  git show HEAD:contacts.rec | recu adopt - contacts.rec\n  recu adopt contacts.rec~ contacts.rec\n  recu adopt contacts.rec";
 
+pub const WRITE_ABOUT: &str =
+    "Gives FILE the text of NEW as one edit, which recu undo FILE takes back. The\nrules of the new text are checked, and FILE itself need not be readable.";
+
+pub const WRITE_HELP: &str =
+    "With --over nothing is overwritten that was saved since OLD was copied. An empty\ntext, as that of a command that failed, is written with --force alone.\n\nExamples:\n  sed 's/^Phone: /Tel: /' contacts.rec | recu write - contacts.rec\n  recu write --over old.rec new.rec contacts.rec";
+
 pub const HISTORY_HELP: &str =
     "Prints a line done NUMBER TOOL for each edit that can be undone, the oldest\nfirst, and then a line undone NUMBER TOOL for each that can be redone, the\nnearest first. For a file that was changed by another program it prints only\ndrifted: nothing can be undone then, and the next edit begins a new history,\nunless recu adopt makes the change an edit. --patch prints under each line what\nrecu show NUMBER FILE prints.\n\nExamples:\n  recu history contacts.rec\n  recu history --patch contacts.rec\n  recu history --journal edits.rec contacts.rec";
 

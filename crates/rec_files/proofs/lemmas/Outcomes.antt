@@ -15,9 +15,9 @@ use Rattle.rec_journal.specs.Stops.{keep_in, IsSafe}
 use Rattle.rec_journal.specs.Forgetting.{forgotten_journal}
 use Rattle.rec_journal.proofs.lemmas.plans.KeptLemmas.{kept-zero, length-kept, keep_within}
 use Rattle.rec_tools.specs.Home.{Contents, Write, writes_by}
-use Rattle.rec_tools.specs.Requests.{AskedChange, editing, moving, reverting, forgetting, adopting, Asked, looking, listing, showing, listing_changes, changing, previewing}
+use Rattle.rec_tools.specs.Requests.{AskedChange, editing, moving, reverting, forgetting, adopting, writing, Asked, looking, listing, showing, listing_changes, changing, previewing}
 use Rattle.rec_tools.specs.Reverting.{IsRevertOf}
-use Rattle.rec_tools.specs.Outcomes.{Outcome, IsChangeOutcome, IsRequestOutcome, IsMade, IsPutBy, edit_reply, revert_reply}
+use Rattle.rec_tools.specs.Outcomes.{Outcome, IsChangeOutcome, IsRequestOutcome, IsMade, IsPutBy, IsPutOn, IsWritten, edit_reply, revert_reply, write_reply}
 use Rattle.rec_tools.proofs.lemmas.runs.RunLemmas.{writes_nothing}
 use Rattle.rec_files.specs.Leftovers.{BeginsAsJournal, IsStopBetween}
 
@@ -110,14 +110,17 @@ module _ (c : Contents) (regular : IsRegular c.journal) where
   by_writes : (o : Outcome) (writes : List Write) → o.writes ≡ writes → ArePuts c writes → ArePuts c o.writes
   by_writes o writes are puts = subst (ArePuts c) (sym are) puts
 
-  puts-put : (MakesOf : _) (reply_for : _) (outcome : Outcome) → IsPutBy MakesOf reply_for c (Ok outcome) → ArePuts c outcome.writes
-  puts-put MakesOf reply_for outcome (inl refused) = let e = refused.2 in cc
-  puts-put MakesOf reply_for outcome (inr (text, is, inl refused)) = let e = refused.2 in cc
-  puts-put MakesOf reply_for outcome (inr (text, is, inr (o, opens, inl refused))) = let e = refused.2 in cc
-  puts-put MakesOf reply_for outcome (inr (text, is, inr (o, opens, inr (made, done, inl (same, e))))) = inl (ap (λ (x : Outcome). x.writes) e)
-  puts-put MakesOf reply_for outcome (inr (text, is, inr (o, opens, inr (made, done, inr (differs, (plan, planned_so, e)))))) =
+  puts-put_on : (MakesOf : _) (reply_for : _) (outcome : Outcome) → IsPutOn MakesOf reply_for c (Ok outcome) → ArePuts c outcome.writes
+  puts-put_on MakesOf reply_for outcome (inl refused) = let e = refused.2 in cc
+  puts-put_on MakesOf reply_for outcome (inr (o, opens, inl refused)) = let e = refused.2 in cc
+  puts-put_on MakesOf reply_for outcome (inr (o, opens, inr (made, done, inl (same, e)))) = inl (ap (λ (x : Outcome). x.writes) e)
+  puts-put_on MakesOf reply_for outcome (inr (o, opens, inr (made, done, inr (differs, (plan, planned_so, e))))) =
       by_writes outcome (writes_by plan.journal (Some plan.file)) (ap (λ (x : Outcome). x.writes) e)
       (plan_puts o _ opens plan planned_so.safe (Edited (edit_to o made.0 made.1.text made.1.steps)) planned_so.planned.2 refl refl)
+
+  puts-put : (MakesOf : _) (reply_for : _) (outcome : Outcome) → IsPutBy MakesOf reply_for c (Ok outcome) → ArePuts c outcome.writes
+  puts-put MakesOf reply_for outcome (inl refused) = let e = refused.2 in cc
+  puts-put MakesOf reply_for outcome (inr (text, is, put)) = puts-put_on MakesOf reply_for outcome put
 
   puts-change : (change : AskedChange) (o : Outcome) → IsChangeOutcome c change (Ok o) → ArePuts c o.writes
   puts-change (editing IsEdit) outcome is = puts-put (λ _. IsMade IsEdit c.file) (λ o. edit_reply o.next o.dropped) outcome is
@@ -144,6 +147,8 @@ module _ (c : Contents) (regular : IsRegular c.journal) where
     begins = begins adopts.plan.file adopts.plan.journal _ adopts.planned.safe.next;
     between = tt;
   })
+  puts-change (writing force over text) outcome is =
+      puts-put_on (λ _. IsWritten force over text c.file) (λ o. write_reply o.next o.dropped) outcome is
 
   puts : (asked : Asked) (o : Outcome) → IsRequestOutcome c asked (Ok o) → ArePuts c o.writes
   puts (looking IsText) outcome is = inl (writes_nothing c (looking IsText) outcome tt is)

@@ -4,6 +4,7 @@ pub mod OpeningLemmas
 pub mod RevertLemmas
 pub mod LeftLemmas
 pub mod AdoptLemmas
+pub mod WriteLemmas
 pub mod FromLemmas
 pub mod OutcomeLemmas
 pub mod DecideLemmas

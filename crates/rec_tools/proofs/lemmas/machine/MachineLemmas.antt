@@ -4,6 +4,7 @@ use Rattle.std.proofs.lemmas.Bool.{false≢true}
 use Rattle.rec_text.specs.declared.fault.Fault.{Fault}
 use Rattle.rec_text.specs.declared.fault.Fault.TheVariants.{BadPattern}
 use Rattle.rec_journal.specs.declared.event.Tool.{Tool}
+use Rattle.rec_check.specs.DescribedTexts.{IsDescribedText}
 use Rattle.rec_edit.specs.declared.answer.Edited.{Edited}
 use Rattle.rec_journal.specs.declared.patch.Direction.{Direction}
 use Rattle.rec_journal.specs.declared.patch.Direction.TheVariants.{Forward, Backward}
@@ -12,11 +13,12 @@ use Rattle.rec_diff.specs.Diffs.{IsDiff}
 use Rattle.rec_diff.proofs.lemmas.DiffLemmas.{one_diff}
 use Rattle.rec_tools.specs.declared.request.Reply.{Reply}
 use Rattle.rec_tools.specs.Printouts.{Printout, ComesOut, Told}
-use Rattle.rec_tools.specs.Requests.{AskedChange, editing, moving, reverting, forgetting, adopting, Asked, looking, listing, showing, listing_changes, changing, previewing, asked_of}
+use Rattle.rec_tools.specs.Requests.{AskedChange, editing, moving, reverting, forgetting, adopting, writing, Asked, looking, listing, showing, listing_changes, changing, previewing, asked_of}
 use Rattle.rec_tools.specs.Reverting.{Standing}
-use Rattle.rec_tools.specs.Outcomes.{IsMade, edit_reply, revert_reply}
+use Rattle.rec_tools.specs.Steps.{Then}
+use Rattle.rec_tools.specs.Outcomes.{IsMade, IsWritten, edit_reply, revert_reply, write_reply}
 use Rattle.rec_tools.specs.Attempts.{Answer}
-use Rattle.rec_tools.specs.Machine.{Entry, State, IsChangeStep, IsMachineStep, IsEditStep, IsMadeStep, IsRevertIn, IsMoveStep, LetsGo, lost_entries, IsShowingStep, IsStepDiff}
+use Rattle.rec_tools.specs.Machine.{Entry, State, IsChangeStep, IsMachineStep, IsEditStep, IsPutStep, IsMadeStep, IsRevertIn, IsMoveStep, LetsGo, lost_entries, IsShowingStep, IsStepDiff}
 use Rattle.rec_tools.specs.Machine.{standing_at, entries_on, told_edit, told_in}
 use Rattle.rec_tools.specs.Laws.{OneStep}
 use Rattle.rec_text.proofs.lemmas.FaultLemmas.{no_both}
@@ -25,6 +27,7 @@ use Rattle.rec_tools.proofs.lemmas.outcomes.EditLemmas.{one_made}
 use Rattle.rec_tools.proofs.lemmas.outcomes.OutcomeLemmas.{ChangesOne, MeansOne, one_meaning, same_top}
 use Rattle.rec_tools.proofs.lemmas.outcomes.AnswerLemmas.{HasOneBut-once_read}
 use Rattle.rec_tools.proofs.lemmas.outcomes.RevertLemmas.{one_reverted}
+use Rattle.rec_tools.proofs.lemmas.outcomes.WriteLemmas.{HasOneBut-written}
 use Rattle.rec_tools.proofs.lemmas.printing.LogLemmas.{one_log}
 
 -- ---- a text is shown in one way
@@ -55,12 +58,15 @@ module _ (s : State) where
   edit_of_built reply_for (Ok made) answer t is built = no_both made BadPattern
   edit_of_built reply_for (Err fault) answer t is built = refused_too answer fault is.0 built
 
+  one_put_step : (reply_for : Tool → Edited → Reply) (Makes : Result (Tool × Edited) Fault → Type 0) → HasOneBut Makes → (one other : Answer) (t u : State)
+      → one ≢ Err BadPattern → other ≢ Err BadPattern → IsPutStep s reply_for Makes one t → IsPutStep s reply_for Makes other u → (one ≡ other) × (t ≡ u)
+  one_put_step reply_for Makes has_one one other t u built built_too (outcome, is, step) (also, is_too, step_too) =
+      let same = has_one outcome also is is_too (edit_of_built reply_for outcome one t step built) (edit_of_built reply_for also other u step_too built_too) in
+      one_edit_step reply_for also one other t u (subst (λ r. IsEditStep s reply_for r one t) same step) step_too
+
   one_made_step : (reply_for : Tool → Edited → Reply) (Makes : Result (Tool × Edited) Fault → Type 0) → HasOneBut Makes → (one other : Answer) (t u : State)
       → one ≢ Err BadPattern → other ≢ Err BadPattern → IsMadeStep s reply_for Makes one t → IsMadeStep s reply_for Makes other u → (one ≡ other) × (t ≡ u)
-  one_made_step reply_for Makes has_one one other t u built built_too (outcome, is, step) (also, is_too, step_too) =
-      let same = HasOneBut-once_read s.present Makes has_one outcome also is is_too
-      (edit_of_built reply_for outcome one t step built) (edit_of_built reply_for also other u step_too built_too) in
-      one_edit_step reply_for also one other t u (subst (λ r. IsEditStep s reply_for r one t) same step) step_too
+  one_made_step reply_for Makes has_one = one_put_step reply_for (Then (IsDescribedText s.present) (λ _. Makes)) (HasOneBut-once_read s.present Makes has_one)
 
   one_revert_in : (force : Bool) (found : Option Standing) → HasOneBut (IsRevertIn force s.present found)
   one_revert_in force None = λ one other e k _ _. e ∙ sym k
@@ -124,6 +130,8 @@ module _ (s : State) (one other : Answer) (built : one ≢ Err BadPattern) (buil
   one_change_step (forgetting n dropping) t u means is is_too =
       one_letting_go (length s.past - n) (if dropping then lost_entries s else 0) s one other t u is is_too
   one_change_step (adopting old) t u means is is_too = (is.0 ∙ sym is_too.0, is.1 ∙ sym is_too.1)
+  one_change_step (writing force over text) t u means is is_too =
+      one_put_step s (write_reply s.next 0) (IsWritten force over text s.present) (HasOneBut-written force over text s.present) one other t u built built_too is is_too
 
   -- what is asked for has one step
   one_step_of : (asked : Asked) (text printed : List ℕ) (t u : State) → MeansOne asked → IsMachineStep s asked one text t → IsMachineStep s asked other printed u

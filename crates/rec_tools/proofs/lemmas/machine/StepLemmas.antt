@@ -18,15 +18,15 @@ use Rattle.rec_journal.proofs.lemmas.patches.StepLemmas.{edits_lead_to_one_text}
 use Rattle.rec_check.specs.DescribedTexts.{IsDescribedText}
 use Rattle.rec_edit.specs.declared.answer.Edited.{Edited}
 use Rattle.rec_tools.specs.declared.request.Reply.{Reply}
-use Rattle.rec_tools.specs.declared.request.Reply.TheVariants.{Shown, Edited as EditedReply, Unchanged, Reverted, Forgotten}
+use Rattle.rec_tools.specs.declared.request.Reply.TheVariants.{Shown, Edited as EditedReply, Unchanged, Reverted, Forgotten, Written}
 use Rattle.rec_tools.specs.Home.{Contents}
 use Rattle.rec_tools.specs.Steps.{Then}
 use Rattle.rec_tools.specs.Printouts.{Printout, history_text, printed_history}
-use Rattle.rec_tools.specs.Requests.{Edits, AskedChange, editing, moving, reverting, forgetting, adopting, Asked, looking, listing, showing, listing_changes, changing, previewing, asked_of}
+use Rattle.rec_tools.specs.Requests.{Edits, AskedChange, editing, moving, reverting, forgetting, adopting, writing, Asked, looking, listing, showing, listing_changes, changing, previewing, asked_of}
 use Rattle.rec_tools.specs.Reverting.{IsRevertOf}
-use Rattle.rec_tools.specs.Outcomes.{Outcome, IsChangeOutcome, IsRequestOutcome, IsPrinting, IsMade, IsEditOutcome, IsPutBy, IsPlanned}
-use Rattle.rec_tools.specs.Outcomes.{IsMove, IsMoveOutcome, IsLetGo, IsForgetting, Forgets, IsAdoption, edit_reply, revert_reply, printing, staying, putting, reply_of}
-use Rattle.rec_tools.specs.Machine.{Entry, State, AreEntries, Stands, IsChangeStep, IsMadeStep, IsRevertIn, IsMoveStep, Clashes, standing_at, entries_on, numbers_in}
+use Rattle.rec_tools.specs.Outcomes.{Outcome, IsChangeOutcome, IsRequestOutcome, IsPrinting, IsMade, IsWritten, IsEditOutcome, IsPutOn, IsPutBy, IsPlanned}
+use Rattle.rec_tools.specs.Outcomes.{IsMove, IsMoveOutcome, IsLetGo, IsForgetting, Forgets, IsAdoption, edit_reply, revert_reply, write_reply, printing, staying, putting, reply_of}
+use Rattle.rec_tools.specs.Machine.{Entry, State, AreEntries, Stands, IsChangeStep, IsPutStep, IsMadeStep, IsRevertIn, IsMoveStep, Clashes, standing_at, entries_on, numbers_in}
 use Rattle.rec_tools.specs.Machine.{state_history, state_after_edit, state_after_move, state_after_forgetting, lost_entries}
 use Rattle.rec_tools.specs.Guarantee.{StepsAsMachine, OutcomesAreSteps}
 use Rattle.rec_text.proofs.lemmas.FaultLemmas.{ok_is_no_err}
@@ -183,16 +183,16 @@ module _ (c : Contents) (s : State) (stands : Stands c s) where
 
   -- where a change is a step by what is made of the state's text
   module _ (change : AskedChange) (Makes : Result (Tool × Edited) Fault → Type 0) (reply_for : Tool → Edited → Reply)
-      (steps : (answer : Answer) (t : State) → IsMadeStep s reply_for Makes answer t → IsChangeStep s change answer t) where
-    made_refused : (fault : Fault) → Then (IsDescribedText s.present) (λ _. Makes) (Err fault) → StepsAsMachine c s (changing change) (Err fault)
+      (steps : (answer : Answer) (t : State) → IsPutStep s reply_for Makes answer t → IsChangeStep s change answer t) where
+    made_refused : (fault : Fault) → Makes (Err fault) → StepsAsMachine c s (changing change) (Err fault)
     made_refused fault is = inl (steps (Err fault) s (Err fault, is, (refl, refl)), refl)
 
-    module _ (tool : Tool) (made : Edited) (is : Then (IsDescribedText s.present) (λ _. Makes) (Ok (tool, made))) where
+    module _ (tool : Tool) (made : Edited) (is : Makes (Ok (tool, made))) where
       module _ (differs : made.text ≢ c.file) where
         other : made.text ≢ s.present
         other same = differs (same ∙ stands.present)
 
-        step : IsMadeStep s reply_for Makes (Ok (reply_for tool made)) (state_after_edit s tool made.steps made.text)
+        step : IsPutStep s reply_for Makes (Ok (reply_for tool made)) (state_after_edit s tool made.steps made.text)
         step = (Ok (tool, made), is, inr (other, refl, refl))
 
         clashes : ShareDigest c.file made.text → Clashes s (changing change)
@@ -242,14 +242,28 @@ module _ (c : Contents) (s : State) (stands : Stands c s) where
     module _ (MakesOf : Opened → Result (Tool × Edited) Fault → Type 0) (replies : Opened → Tool → Edited → Reply)
         (goes : (o : Opened) → Opens c.file c.journal o → (r : Result (Tool × Edited) Fault) → MakesOf o r → Makes r)
         (alike : (o : Opened) → Opens c.file c.journal o → (tool : Tool) (made : Edited) → replies o tool made ≡ reply_for tool made) where
-      made_step : (r : Result Outcome Fault) → IsPutBy MakesOf replies c r → StepsAsMachine c s (changing change) r
-      made_step r (inl (fault, refused, e)) =
-          subst (λ x. StepsAsMachine c s (changing change) x) (sym e) (made_refused fault (read_present Makes (Err fault) (inl (fault, refused, refl))))
-      made_step r (inr (text, is, inl (fault, refused, e))) = absurd (no_refusal fault refused)
-      made_step r (inr (text, is, inr (o, opens, inl (fault, refused, e)))) =
-          subst (λ x. StepsAsMachine c s (changing change) x) (sym e) (made_refused fault (read_present Makes (Err fault) (inr (text, is, goes o opens (Err fault) refused))))
-      made_step r (inr (text, is, inr (o, opens, inr ((tool, made), done, last)))) =
-          edit_steps tool made (read_present Makes (Ok (tool, made)) (inr (text, is, goes o opens (Ok (tool, made)) done))) o (replies o tool made) (alike o opens tool made) r opens last
+      put_step : (r : Result Outcome Fault) → IsPutOn MakesOf replies c r → StepsAsMachine c s (changing change) r
+      put_step r (inl (fault, refused, e)) = absurd (no_refusal fault refused)
+      put_step r (inr (o, opens, inl (fault, refused, e))) = subst (λ x. StepsAsMachine c s (changing change) x) (sym e) (made_refused fault (goes o opens (Err fault) refused))
+      put_step r (inr (o, opens, inr ((tool, made), done, last))) =
+          edit_steps tool made (goes o opens (Ok (tool, made)) done) o (replies o tool made) (alike o opens tool made) r opens last
+
+  -- the same of a text that reads
+  module _ (change : AskedChange) (Makes : Result (Tool × Edited) Fault → Type 0) (reply_for : Tool → Edited → Reply)
+      (steps : (answer : Answer) (t : State) → IsMadeStep s reply_for Makes answer t → IsChangeStep s change answer t)
+      (MakesOf : Opened → Result (Tool × Edited) Fault → Type 0) (replies : Opened → Tool → Edited → Reply)
+      (goes : (o : Opened) → Opens c.file c.journal o → (r : Result (Tool × Edited) Fault) → MakesOf o r → Makes r)
+      (alike : (o : Opened) → Opens c.file c.journal o → (tool : Tool) (made : Edited) → replies o tool made ≡ reply_for tool made) where
+    abbrev MakesRead : Result (Tool × Edited) Fault → Type 0
+    MakesRead = Then (IsDescribedText s.present) (λ _. Makes)
+
+    made_step : (r : Result Outcome Fault) → IsPutBy MakesOf replies c r → StepsAsMachine c s (changing change) r
+    made_step r (inl (fault, refused, e)) =
+        subst (λ x. StepsAsMachine c s (changing change) x) (sym e)
+        (made_refused change MakesRead reply_for steps fault (read_present Makes (Err fault) (inl (fault, refused, refl))))
+    made_step r (inr (text, is, put)) =
+        put_step change MakesRead reply_for steps MakesOf replies
+        (λ o opens told h. read_present Makes told (inr (text, is, goes o opens told h))) alike r put
 
   edits_step : (IsEdit : Result Edits Fault → Type 0) (r : Result Outcome Fault) → IsChangeOutcome c (editing IsEdit) r → StepsAsMachine c s (changing (editing IsEdit)) r
   edits_step IsEdit r is =
@@ -264,6 +278,16 @@ module _ (c : Contents) (s : State) (stands : Stands c s) where
       (λ o. IsRevertOf number force o c.file) (λ o. revert_reply number o.next)
       (λ o opens made h. reverts_alike o c s (by_opening o opens) opens number force made h)
       (λ o opens tool made. ap (Reverted number tool) (sym (by_opening o opens).next)) r is
+
+  -- ---- a whole text
+
+  writes_step : (force : Bool) (over : Option (List ℕ)) (text : List ℕ) (r : Result Outcome Fault) → IsChangeOutcome c (writing force over text) r
+      → StepsAsMachine c s (changing (writing force over text)) r
+  writes_step force over text r is =
+      put_step (writing force over text) (IsWritten force over text s.present) (write_reply s.next 0) (λ answer t h. h)
+      (λ _. IsWritten force over text c.file) (λ o. write_reply o.next o.dropped)
+      (λ o opens told h. subst (λ here. IsWritten force over text here told) (sym stands.present) h)
+      (λ o opens tool made. (let by = by_opening o opens in ap₂ Written (sym by.next) by.none_dropped)) r is
 
   -- ---- a move
 
@@ -394,6 +418,7 @@ changes_are_steps c s (moving direction through) r stands is = moves_step c s st
 changes_are_steps c s (reverting number force) r stands is = reverts_step c s stands number force r is
 changes_are_steps c s (forgetting n dropping) r stands is = forgets_step c s stands n dropping r is
 changes_are_steps c s (adopting old) r stands is = adopts_step c s stands old r is
+changes_are_steps c s (writing force over text) r stands is = writes_step c s stands force over text r is
 
 -- and so it does for all that is asked for
 pub outcomes_are_steps : (c : Contents) (s : State) (asked : Asked) (r : Result Outcome Fault)

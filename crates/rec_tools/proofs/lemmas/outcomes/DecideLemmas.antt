@@ -36,7 +36,7 @@ use Rattle.rec_tools.specs.Steps.{Then}
 use Rattle.rec_tools.specs.Batches.{AreEdits}
 use Rattle.rec_tools.specs.Requests.{moving, IsTaskOf, AreTasks, IsOneEdit, IsBatch}
 use Rattle.rec_tools.specs.Making.{AreMade}
-use Rattle.rec_tools.specs.Outcomes.{Outcome, IsMade, IsEditOutcome, IsPutBy, IsChangeOutcome, OnTop, putting, outcome_of, outcome_in, reply_of}
+use Rattle.rec_tools.specs.Outcomes.{Outcome, IsMade, IsEditOutcome, IsPutOn, IsPutBy, IsChangeOutcome, OnTop, putting, outcome_of, outcome_in, reply_of}
 use Rattle.rec_tools.specs.proving.Courses.{HasCourse}
 use Rattle.rec_tools.specs.proving.Editing.{HasSteps}
 use Rattle.rec_text.proofs.lemmas.FaultLemmas.{memory_or_weaker, no_both, ok_is_no_err, same_fault, same_value}
@@ -196,26 +196,45 @@ module _ (file journal : List ℕ) (MakesOf : Opened → Result (Tool × Edited)
   abbrev on : Contents
   on = record { file = file; journal = journal }
 
+  pub put-no_opening : (fault : Fault) → IsMemoryOr fault (IsOpening file journal (Err fault)) → IsMemoryOr fault (IsPutOn MakesOf reply_for on (Err fault))
+  put-no_opening fault h = memory_or_weaker fault _ _ (λ none. inl (fault, none, refl)) h
+
+  module _ (o : Opened) (opens : IsOpening file journal (Ok o)) where
+    pub put-refused : (fault : Fault) → IsMemoryOr fault (MakesOf o (Err fault)) → IsMemoryOr fault (IsPutOn MakesOf reply_for on (Err fault))
+    put-refused fault h = memory_or_weaker fault _ _ (λ none. inr (o, opens, inl (fault, none, refl))) h
+
+    -- what becomes of it
+    module _ (tool : Tool) (made : Edited) (is_made : MakesOf o (Ok (tool, made))) (reply : Reply) (replied : reply ≡ reply_for o tool made) where
+      put_ends : (r : Result Outcome Fault) → IsEditOutcome o on tool made reply r → IsPutOn MakesOf reply_for on r
+      put_ends r h = inr (o, opens, inr ((tool, made), is_made, subst (λ y. IsEditOutcome o on tool made y r) replied h))
+
+      pub put-made : (r : Result Decision Fault) → UnlessMemory r (λ answer. IsEditOutcome o on tool made reply (outcome_in answer))
+          → UnlessMemory r (λ answer. IsPutOn MakesOf reply_for on (outcome_in answer))
+      put-made (Ok decision) h = put_ends (Ok (outcome_of decision)) h
+      put-made (Err fault) h = memory_or_weaker fault _ _ (put_ends (Err fault)) h
+
+  -- of a file that reads
+
   pub made-no_text : (fault : Fault) → IsMemoryOr fault (IsDescribedText file (Err fault)) → IsMemoryOr fault (IsPutBy MakesOf reply_for on (Err fault))
   made-no_text fault h = memory_or_weaker fault _ _ (λ none. inl (fault, none, refl)) h
 
   module _ (text : DescribedText) (is : IsDescribedText file (Ok text)) where
+    once_read : (r : Result Outcome Fault) → IsPutOn MakesOf reply_for on r → IsPutBy MakesOf reply_for on r
+    once_read r put = inr (text, is, put)
+
     pub made-no_opening : (fault : Fault) → IsMemoryOr fault (IsOpening file journal (Err fault)) → IsMemoryOr fault (IsPutBy MakesOf reply_for on (Err fault))
-    made-no_opening fault h = memory_or_weaker fault _ _ (λ none. inr (text, is, inl (fault, none, refl))) h
+    made-no_opening fault h = memory_or_weaker fault _ _ (once_read (Err fault)) (put-no_opening fault h)
 
     module _ (o : Opened) (opens : IsOpening file journal (Ok o)) where
       pub made-refused : (fault : Fault) → IsMemoryOr fault (MakesOf o (Err fault)) → IsMemoryOr fault (IsPutBy MakesOf reply_for on (Err fault))
-      made-refused fault h = memory_or_weaker fault _ _ (λ none. inr (text, is, inr (o, opens, inl (fault, none, refl)))) h
+      made-refused fault h = memory_or_weaker fault _ _ (once_read (Err fault)) (put-refused o opens fault h)
 
       -- what becomes of it
       module _ (tool : Tool) (made : Edited) (is_made : MakesOf o (Ok (tool, made))) (reply : Reply) (replied : reply ≡ reply_for o tool made) where
-        made_ends : (r : Result Outcome Fault) → IsEditOutcome o on tool made reply r → IsPutBy MakesOf reply_for on r
-        made_ends r h = inr (text, is, inr (o, opens, inr ((tool, made), is_made, subst (λ y. IsEditOutcome o on tool made y r) replied h)))
-
         pub made-put : (r : Result Decision Fault) → UnlessMemory r (λ answer. IsEditOutcome o on tool made reply (outcome_in answer))
             → UnlessMemory r (λ answer. IsPutBy MakesOf reply_for on (outcome_in answer))
-        made-put (Ok decision) h = made_ends (Ok (outcome_of decision)) h
-        made-put (Err fault) h = memory_or_weaker fault _ _ (made_ends (Err fault)) h
+        made-put (Ok decision) h = once_read (Ok (outcome_of decision)) (put-made o opens tool made is_made reply replied (Ok decision) h)
+        made-put (Err fault) h = memory_or_weaker fault _ _ (once_read (Err fault)) (put-made o opens tool made is_made reply replied (Err fault) h)
 
 -- ---- the plan of an edit
 

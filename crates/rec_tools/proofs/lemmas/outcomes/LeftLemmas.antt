@@ -109,7 +109,7 @@ module _ (e : Standing) (here : List ℕ) (hunks : List Hunk) (left : List ℕ) 
       }
 
 -- an edit to this text, and its tool
-abbrev told_by : List ℕ → Tool → List EditStep → Tool × Edited
+abbrev pub told_by : List ℕ → Tool → List EditStep → Tool × Edited
 told_by left tool steps = (tool, record { steps = steps; text = left; changed = 0; chosen = None })
 
 -- as they are found

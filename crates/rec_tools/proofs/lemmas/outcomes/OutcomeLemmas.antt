@@ -44,7 +44,7 @@ use Rattle.rec_tools.specs.declared.request.Pick.{Pick}
 use Rattle.rec_tools.specs.declared.request.Look.{Look}
 use Rattle.rec_tools.specs.declared.request.Look.TheVariants.{Show, Info, Check, History, Diff, Log}
 use Rattle.rec_tools.specs.declared.request.Change.{Change}
-use Rattle.rec_tools.specs.declared.request.Change.TheVariants.{Edit, Batch, Undo, Redo, Revert, Forget, Adopt}
+use Rattle.rec_tools.specs.declared.request.Change.TheVariants.{Edit, Batch, Undo, Redo, Revert, Forget, Adopt, Write as WriteText}
 use Rattle.rec_tools.specs.declared.request.Request.{Request}
 use Rattle.rec_tools.specs.declared.request.Request.TheVariants.{Look as Looks, Change as Changes, Preview as Previews}
 use Rattle.rec_tools.specs.declared.request.Reply.{Reply}
@@ -53,11 +53,11 @@ use Rattle.rec_tools.specs.Home.{Contents, Write, written}
 use Rattle.rec_tools.specs.Steps.{Then}
 use Rattle.rec_tools.specs.Asking.{IsFilter, IsListed, IsShape}
 use Rattle.rec_tools.specs.Printouts.{Printout, printed_history, told_of, IsLog, IsShownEdit, IsLogOf, IsWholeLog, IsShow, IsInfoOf, IsShownText, IsReportText, verdict}
-use Rattle.rec_tools.specs.Requests.{Edits, AskedChange, editing, moving, reverting, forgetting, adopting, Asked, looking, listing, showing, listing_changes, changing, previewing}
+use Rattle.rec_tools.specs.Requests.{Edits, AskedChange, editing, moving, reverting, forgetting, adopting, writing, Asked, looking, listing, showing, listing_changes, changing, previewing}
 use Rattle.rec_tools.specs.Requests.{look_of, change_of, asked_of}
 use Rattle.rec_tools.specs.Reverting.{IsRevertOf}
-use Rattle.rec_tools.specs.Outcomes.{Outcome, IsChangeOutcome, IsRequestOutcome, IsPrinting, IsMade, IsEditOutcome, IsPutBy, IsMove}
-use Rattle.rec_tools.specs.Outcomes.{IsForgetting, IsAdoption, OnTop, LeadsAcross, IsPreviewText, IsPreviewFrom, OneOutcome, edit_reply, revert_reply, printing, putting, reply_of}
+use Rattle.rec_tools.specs.Outcomes.{Outcome, IsChangeOutcome, IsRequestOutcome, IsPrinting, IsMade, IsWritten, IsEditOutcome, IsPutOn, IsPutBy, IsMove}
+use Rattle.rec_tools.specs.Outcomes.{IsForgetting, IsAdoption, OnTop, LeadsAcross, IsPreviewText, IsPreviewFrom, OneOutcome, edit_reply, revert_reply, write_reply, printing, putting, reply_of}
 use Rattle.rec_text.proofs.lemmas.FaultLemmas.{same_fault, same_value}
 use Rattle.rec_tools.proofs.lemmas.outcomes.OpeningLemmas.{no_clash, same_plan_of}
 use Rattle.rec_tools.proofs.lemmas.outcomes.EditLemmas.{AreEditsAlike, agree_on_one, agree_on_batch, one_made}
@@ -67,6 +67,7 @@ use Rattle.rec_tools.proofs.lemmas.printing.LogLemmas.{one_log}
 use Rattle.rec_tools.proofs.lemmas.outcomes.AnswerLemmas.{HasOneBut-filter, HasOneBut-text, HasOneBut-once_read, agree_by_sets, same_selection}
 use Rattle.rec_tools.proofs.lemmas.outcomes.RevertLemmas.{one_revert_of}
 use Rattle.rec_tools.proofs.lemmas.outcomes.AdoptLemmas.{HasOne-adoption}
+use Rattle.rec_tools.proofs.lemmas.outcomes.WriteLemmas.{HasOneBut-written}
 
 -- ---- printed texts
 
@@ -184,6 +185,7 @@ one_change (Redo through) = tt
 one_change (Revert number force) = tt
 one_change (Forget n dropped) = tt
 one_change (Adopt old) = tt
+one_change (WriteText text over force) = tt
 
 pub one_meaning : (request : Request) → MeansOne (asked_of request)
 one_meaning (Looks look) = one_look look
@@ -332,21 +334,25 @@ same_outcome one other text writes reply from =
 
 module _ (c : Contents) where
   HasOneBut-put : (MakesOf : Opened → Result (Tool × Edited) Fault → Type 0) (reply_for : Opened → Tool → Edited → Reply)
-      → ((o : Opened) → Opens c.file c.journal o → HasOneBut (MakesOf o)) → HasOneBut (IsPutBy MakesOf reply_for c)
+      → ((o : Opened) → Opens c.file c.journal o → HasOneBut (MakesOf o)) → HasOneBut (IsPutOn MakesOf reply_for c)
   HasOneBut-put MakesOf reply_for has_one =
       let last : Opened → Tool × Edited → Result Outcome Fault → Type 0 = λ o told. IsEditOutcome o c told.0 told.1 (reply_for o told.0 told.1) in
       let next : Opened → Result Outcome Fault → Type 0 = λ o. Then (MakesOf o) (last o) in
-      HasOneBut-once_read c.file (Then (IsOpening c.file c.journal) next)
-      (HasOneBut-Then (IsOpening c.file c.journal) next (HasOneBut-of (IsOpening c.file c.journal) (one_opening c.file c.journal)) (λ o opens.
+      HasOneBut-Then (IsOpening c.file c.journal) next (HasOneBut-of (IsOpening c.file c.journal) (one_opening c.file c.journal)) (λ o opens.
       HasOneBut-Then (MakesOf o) (last o) (has_one o opens)
-      (λ told _. HasOneBut-of (last o told) (HasOne-edit_outcome o c opens told.0 told.1 (reply_for o told.0 told.1)))))
+      (λ told _. HasOneBut-of (last o told) (HasOne-edit_outcome o c opens told.0 told.1 (reply_for o told.0 told.1))))
+
+  -- of a file that reads
+  HasOneBut-put_by : (MakesOf : Opened → Result (Tool × Edited) Fault → Type 0) (reply_for : Opened → Tool → Edited → Reply)
+      → ((o : Opened) → Opens c.file c.journal o → HasOneBut (MakesOf o)) → HasOneBut (IsPutBy MakesOf reply_for c)
+  HasOneBut-put_by MakesOf reply_for has_one = HasOneBut-once_read c.file (IsPutOn MakesOf reply_for c) (HasOneBut-put MakesOf reply_for has_one)
 
   -- a change comes to one outcome
   pub one_change_outcome : (change : AskedChange) → ChangesOne change → HasOneBut (IsChangeOutcome c change)
   one_change_outcome (editing IsEdit) means one other is is_too built built_too =
-      HasOneBut-put (λ _. IsMade IsEdit c.file) (λ o. edit_reply o.next o.dropped) (λ o opens. one_made IsEdit means c.file) one other is is_too built built_too
+      HasOneBut-put_by (λ _. IsMade IsEdit c.file) (λ o. edit_reply o.next o.dropped) (λ o opens. one_made IsEdit means c.file) one other is is_too built built_too
   one_change_outcome (reverting number force) means one other is is_too built built_too =
-      HasOneBut-put (λ o. IsRevertOf number force o c.file) (λ o. revert_reply number o.next) (λ o opens. one_revert_of number force o c.file c.journal opens)
+      HasOneBut-put_by (λ o. IsRevertOf number force o c.file) (λ o. revert_reply number o.next) (λ o opens. one_revert_of number force o c.file c.journal opens)
       one other is is_too built built_too
   one_change_outcome (moving direction through) means one other is is_too built built_too =
       HasOne-Then (IsOpening c.file c.journal) (λ o. IsMove direction through o c) (one_opening c.file c.journal) (λ o _. HasOne-move direction through o c)
@@ -356,6 +362,9 @@ module _ (c : Contents) where
       one other is is_too
   one_change_outcome (adopting old) means one other is is_too built built_too =
       HasOne-Then (IsOpening c.file c.journal) (λ o. IsAdoption old o c) (one_opening c.file c.journal) (λ o _. HasOne-adoption old o c) one other is is_too
+  one_change_outcome (writing force over text) means one other is is_too built built_too =
+      HasOneBut-put (λ _. IsWritten force over text c.file) (λ o. write_reply o.next o.dropped) (λ o opens. HasOneBut-written force over text c.file)
+      one other is is_too built built_too
 
   -- what is asked for comes to one outcome
   pub one_outcome_of : (asked : Asked) → MeansOne asked → HasOneBut (IsRequestOutcome c asked)

@@ -64,7 +64,7 @@ HasOneBut-readable text step has_one one other (inr (described, is, h)) (inl (g,
     absurd (no_both tt also same)
 HasOneBut-readable text step has_one one other (inr (described, is, h)) (inr (also, is_too, h_too)) built built_too = has_one one other h h_too built built_too
 
-HasOneBut-sound : (force : Bool) (text : List ℕ) → HasOneBut (IsSoundUnlessForced force text)
+pub HasOneBut-sound : (force : Bool) (text : List ℕ) → HasOneBut (IsSoundUnlessForced force text)
 HasOneBut-sound true text = λ one other e k _ _. e ∙ sym k
 HasOneBut-sound false text =
     HasOneBut-Then (AreViolationsOf text) (λ found answer. answer ≡ none_of found) (one_check text) (λ found _. HasOneBut-of _ (λ one other e k. e ∙ sym k))

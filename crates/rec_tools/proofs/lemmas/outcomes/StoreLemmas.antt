@@ -13,7 +13,7 @@ use Rattle.rec_tools.specs.declared.request.Reply.TheVariants.{Shown}
 use Rattle.rec_tools.specs.declared.request.Look.{Look}
 use Rattle.rec_tools.specs.declared.request.Look.TheVariants.{Show, Info, Check, History, Diff, Log}
 use Rattle.rec_tools.specs.declared.request.Change.{Change}
-use Rattle.rec_tools.specs.declared.request.Change.TheVariants.{Edit, Batch, Undo, Redo, Revert, Forget, Adopt}
+use Rattle.rec_tools.specs.declared.request.Change.TheVariants.{Edit, Batch, Undo, Redo, Revert, Forget, Adopt, Write}
 use Rattle.rec_tools.specs.declared.request.Request.{Request}
 use Rattle.rec_tools.specs.declared.request.Request.TheVariants.{Look as Looks, Change as Changes, Preview as Previews}
 use Rattle.rec_tools.specs.Home.{Contents}
@@ -24,9 +24,10 @@ use Rattle.rec_journal.specs.Plans.{nothing_there}
 use Rattle.rec_check.specs.DescribedTexts.{IsDescribedText}
 use Rattle.rec_tools.specs.Printouts.{printed_history, IsShownEdit, IsLogOf, IsWholeLog}
 use Rattle.rec_select.specs.Info.{IsInfo}
-use Rattle.rec_tools.specs.Requests.{Edits, IsOneEdit, IsBatch, editing, moving, reverting, forgetting, adopting, look_of, change_of, asked_of}
+use Rattle.rec_tools.specs.Requests.{Edits, IsOneEdit, IsBatch, editing, moving, reverting, forgetting, adopting, writing, look_of, change_of, asked_of}
 use Rattle.rec_tools.specs.Reverting.{IsRevertOf}
-use Rattle.rec_tools.specs.Outcomes.{Outcome, IsMade, IsEditOutcome, IsPutBy, edit_reply, revert_reply, IsMove, IsForgetting, IsAdoption, IsChangeOutcome, IsRequestOutcome, printing}
+use Rattle.rec_tools.specs.Outcomes.{Outcome, IsMade, IsWritten, IsEditOutcome, IsPutOn, IsPutBy, edit_reply, revert_reply, write_reply, IsMove, IsForgetting, IsAdoption, IsChangeOutcome}
+use Rattle.rec_tools.specs.Outcomes.{IsRequestOutcome, printing}
 use Rattle.rec_text.proofs.lemmas.FaultLemmas.{ok_is_no_err}
 use Rattle.rec_tools.proofs.lemmas.printing.PutsLemmas.{no_store_then, no_store_text}
 use Rattle.rec_tools.proofs.lemmas.printing.ShowLemmas.{no_store_show}
@@ -34,6 +35,7 @@ use Rattle.rec_tools.proofs.lemmas.printing.InformLemmas.{no_store_info}
 use Rattle.rec_tools.proofs.lemmas.printing.CheckLemmas.{no_store_report}
 use Rattle.rec_tools.proofs.lemmas.outcomes.RevertLemmas.{no_store_revert}
 use Rattle.rec_tools.proofs.lemmas.outcomes.EditLemmas.{no_store_made, no_store_one, no_store_listed}
+use Rattle.rec_tools.proofs.lemmas.outcomes.WriteLemmas.{no_store_written}
 
 -- ---- edits
 
@@ -41,20 +43,29 @@ no_store_edit : (o : Opened) (c : Contents) (tool : Tool) (made : Edited) (reply
 no_store_edit o c tool made reply h = let e = h.1 in cc
 
 never_puts : (c : Contents) (MakesOf : Opened → Result (Tool × Edited) Fault → Type 0) (reply_for : Opened → Tool → Edited → Reply)
-    → ((o : Opened) → MakesOf o (Err StoreFailed) → ⊥) → IsPutBy MakesOf reply_for c (Err StoreFailed) → ⊥
+    → ((o : Opened) → MakesOf o (Err StoreFailed) → ⊥) → IsPutOn MakesOf reply_for c (Err StoreFailed) → ⊥
 never_puts c MakesOf reply_for never =
     let last : Opened → Tool × Edited → Result Outcome Fault → Type 0 = λ o told. IsEditOutcome o c told.0 told.1 (reply_for o told.0 told.1) in
     let next : Opened → Result Outcome Fault → Type 0 = λ o. Then (MakesOf o) (last o) in
-    no_store_then (IsDescribedText c.file) (λ _. Then (IsOpening c.file c.journal) next) (no_store_text c.file) (λ _.
     no_store_then (IsOpening c.file c.journal) next (λ h. h) (λ o.
-    no_store_then (MakesOf o) (last o) (never o) (λ told. no_store_edit o c told.0 told.1 (reply_for o told.0 told.1))))
+    no_store_then (MakesOf o) (last o) (never o) (λ told. no_store_edit o c told.0 told.1 (reply_for o told.0 told.1)))
+
+-- a file that reads
+never_reads : (c : Contents) (MakesOf : Opened → Result (Tool × Edited) Fault → Type 0) (reply_for : Opened → Tool → Edited → Reply)
+    → ((o : Opened) → MakesOf o (Err StoreFailed) → ⊥) → IsPutBy MakesOf reply_for c (Err StoreFailed) → ⊥
+never_reads c MakesOf reply_for never =
+    no_store_then (IsDescribedText c.file) (λ _. IsPutOn MakesOf reply_for c) (no_store_text c.file) (λ _. never_puts c MakesOf reply_for never)
 
 never_edits : (c : Contents) (IsEdit : Result Edits Fault → Type 0) → (IsEdit (Err StoreFailed) → ⊥) → IsChangeOutcome c (editing IsEdit) (Err StoreFailed) → ⊥
-never_edits c IsEdit never = never_puts c (λ _. IsMade IsEdit c.file) (λ o. edit_reply o.next o.dropped) (λ o. no_store_made IsEdit never c.file)
+never_edits c IsEdit never = never_reads c (λ _. IsMade IsEdit c.file) (λ o. edit_reply o.next o.dropped) (λ o. no_store_made IsEdit never c.file)
 
 never_reverts : (c : Contents) (number : ℕ) (force : Bool) → IsChangeOutcome c (reverting number force) (Err StoreFailed) → ⊥
 never_reverts c number force =
-    never_puts c (λ o. IsRevertOf number force o c.file) (λ o. revert_reply number o.next) (λ o. no_store_revert number force o c.file)
+    never_reads c (λ o. IsRevertOf number force o c.file) (λ o. revert_reply number o.next) (λ o. no_store_revert number force o c.file)
+
+never_writes : (c : Contents) (force : Bool) (over : Option (List ℕ)) (text : List ℕ) → IsChangeOutcome c (writing force over text) (Err StoreFailed) → ⊥
+never_writes c force over text =
+    never_puts c (λ _. IsWritten force over text c.file) (λ o. write_reply o.next o.dropped) (λ _. no_store_written force over text c.file)
 
 -- ---- moves
 
@@ -125,6 +136,7 @@ no_store_change (Redo through) c is = never_moves Forward through c is
 no_store_change (Revert number force) c is = never_reverts c number force is
 no_store_change (Forget n dropped) c is = never_forgets n dropped c is
 no_store_change (Adopt old) c is = never_adopts old c is
+no_store_change (Write text over force) c is = never_writes c force over text is
 
 pub never_store : (request : Request) (c : Contents) → IsRequestOutcome c (asked_of request) (Err StoreFailed) → ⊥
 never_store (Looks look) c is = no_store_look look c is

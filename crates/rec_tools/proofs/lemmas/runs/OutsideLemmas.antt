@@ -25,12 +25,13 @@ use Rattle.rec_tools.specs.declared.request.Request.{Request}
 use Rattle.rec_tools.specs.declared.request.Request.TheVariants.{Look as Looks, Change as Changes, Preview as Previews}
 use Rattle.rec_tools.specs.Home.{Contents, written}
 use Rattle.rec_tools.specs.Printouts.{history_text, verdict, IsShownText, IsShow, IsInfoOf, IsShownEdit, IsWholeLog}
-use Rattle.rec_tools.specs.Requests.{Edits, AskedChange, editing, moving, reverting, forgetting, adopting, Asked, looking, listing, showing, listing_changes, changing, previewing}
+use Rattle.rec_tools.specs.Requests.{AskedChange, editing, moving, reverting, forgetting, adopting, writing, Asked, looking, listing, showing, listing_changes, changing, previewing}
 use Rattle.rec_tools.specs.Requests.{look_of, change_of, asked_of}
-use Rattle.rec_tools.specs.Outcomes.{Outcome, IsChangeOutcome, IsRequestOutcome, IsPlanned, IsPrinting, printing}
+use Rattle.rec_tools.specs.Outcomes.{Outcome, IsMade, IsWritten, IsPutOn, IsChangeOutcome, IsRequestOutcome, IsPlanned, IsPrinting, edit_reply, write_reply, printing}
 use Rattle.rec_tools.specs.Machine.{AreEntries, Stands}
 use Rattle.rec_tools.specs.Laws.{MadeAnEdit, IsPreview, outside_state, BeginsAnew, GoesOn, OutsideIsNoticed}
 use Rattle.rec_text.proofs.lemmas.FaultLemmas.{no_both, ok_is_no_err, same_value}
+use Rattle.rec_tools.proofs.lemmas.outcomes.FromLemmas.{put_on}
 use Rattle.rec_tools.proofs.lemmas.outcomes.OpeningLemmas.{edit_leads_back}
 use Rattle.rec_tools.proofs.lemmas.runs.RunLemmas.{writes_nothing}
 
@@ -92,6 +93,28 @@ module _ (c : Contents) (o : Opened) (opens : Opens c.file c.journal o) (drifted
   no_revert number force outcome (inr (text, is, inr (p, opened, inr (told, inr (found, standing, made), last)))) =
       not_settled p opened standing.0
 
+  -- what is put in place begins the history anew
+  module _ (MakesOf : Opened → Result (Tool × Edited) Fault → Type 0) (reply_for : Opened → Tool → Edited → Reply) (outcome : Outcome) where
+    begun_put : IsPutOn MakesOf reply_for c (Ok outcome) → outcome.writes ≢ []
+        → (tool : Tool) × (made : Edited) × MakesOf o (Ok (tool, made)) × Stands (written c outcome.writes) (outside_state c o tool made.steps made.text)
+    begun_put (inl refused) some = let e = refused.2 in cc
+    begun_put (inr (p, opened, inl refused)) some = let e = refused.2 in cc
+    begun_put (inr (p, opened, inr (made, done, inl (same, e)))) some = absurd (some (ap (λ (x : Outcome). x.writes) e))
+    begun_put (inr (p, opened, inr ((tool, made), done, inr (differs, (plan, planned, e))))) some =
+        let here : IsPlanned o c tool made plan = subst (λ x. IsPlanned x c tool made plan) (same_opening p opened) planned in (
+          tool,
+          made,
+          subst (λ x. MakesOf x (Ok (tool, made))) (same_opening p opened) done,
+          subst (λ (x : Outcome). Stands (written c x.writes) (outside_state c o tool made.steps made.text)) (sym e) (begun tool made plan here),
+        )
+
+    put-written : IsPutOn MakesOf reply_for c (Ok outcome) → outcome.writes ≡ [] → MadeAnEdit outcome.reply → ⊥
+    put-written (inl (fault, refused, e)) none made = no_both outcome fault e
+    put-written (inr (p, opened, inl (fault, refused, e))) none made = no_both outcome fault e
+    put-written (inr (p, opened, inr (told, done, inl (same, e)))) none made = subst (λ (x : Outcome). MadeAnEdit x.reply) e made
+    put-written (inr (p, opened, inr ((tool, edited), done, inr (differs, (plan, planned, e))))) none made =
+        let both = sym none ∙ ap (λ (x : Outcome). x.writes) e in cc
+
   begins_anew : (asked : Asked) (outcome : Outcome) → IsRequestOutcome c asked (Ok outcome) → outcome.writes ≢ [] → BeginsAnew c o asked outcome ⊎ GoesOn c o asked outcome
   begins_anew (looking IsText) outcome is some = absurd (some (writes_nothing c (looking IsText) outcome tt is))
   begins_anew listing outcome is some = absurd (some (writes_nothing c listing outcome tt is))
@@ -99,18 +122,13 @@ module _ (c : Contents) (o : Opened) (opens : Opens c.file c.journal o) (drifted
   begins_anew (listing_changes style) outcome is some = absurd (some (writes_nothing c (listing_changes style) outcome tt is))
   begins_anew (previewing style change) outcome is some = absurd (some (writes_nothing c (previewing style change) outcome tt is))
   begins_anew (changing (reverting number force)) outcome is some = absurd (no_revert number force outcome is)
-  begins_anew (changing (editing IsEdit)) outcome (inl refused) some = let e = refused.2 in cc
-  begins_anew (changing (editing IsEdit)) outcome (inr (text, is, inl refused)) some = let e = refused.2 in cc
-  begins_anew (changing (editing IsEdit)) outcome (inr (text, is, inr (p, opened, inl refused))) some = let e = refused.2 in cc
-  begins_anew (changing (editing IsEdit)) outcome (inr (text, is, inr (p, opened, inr (made, done, inl (same, e))))) some = absurd (some (ap (λ (x : Outcome). x.writes) e))
-  begins_anew (changing (editing IsEdit)) outcome (inr (text, is, inr (p, opened, inr ((tool, made), done, inr (differs, (plan, planned, e)))))) some =
-      let here : IsPlanned o c tool made plan = subst (λ x. IsPlanned x c tool made plan) (same_opening p opened) planned in
-      inl (record {
-        tool = tool;
-        made = made;
-        makes = done;
-        stands = subst (λ (x : Outcome). Stands (written c x.writes) (outside_state c o tool made.steps made.text)) (sym e) (begun tool made plan here);
-      })
+  begins_anew (changing (editing IsEdit)) outcome is some =
+      let (tool, made, done, stands) =
+      begun_put (λ _. IsMade IsEdit c.file) (λ o. edit_reply o.next o.dropped) outcome (put_on c (λ _. IsMade IsEdit c.file) (λ o. edit_reply o.next o.dropped) outcome is) some in
+      inl (record { tool = tool; made = made; makes = done; stands = stands })
+  begins_anew (changing (writing force over text)) outcome is some =
+      let (tool, made, done, stands) = begun_put (λ _. IsWritten force over text c.file) (λ o. write_reply o.next o.dropped) outcome is some in
+      inl (record { tool = tool; made = made; makes = done; stands = stands })
   begins_anew (changing (moving direction through)) outcome is some = absurd (ok_is_no_err outcome Drifted ⊥ (sym (no_move direction through (Ok outcome) is)))
   begins_anew (changing (forgetting n dropping)) outcome is some = absurd (ok_is_no_err outcome Drifted ⊥ (sym (nothing_forgotten n dropping (Ok outcome) is)))
   begins_anew (changing (adopting old)) outcome (inl refused) some = let e = refused.2 in cc
@@ -129,15 +147,6 @@ module _ (c : Contents) (o : Opened) (opens : Opens c.file c.journal o) (drifted
   printed-no_edit : (IsText : Result (List ℕ) Fault → Type 0) (outcome : Outcome) → IsPrinting (IsShownText IsText) (Ok outcome) → MadeAnEdit outcome.reply → ⊥
   printed-no_edit IsText outcome (p, is, e) made = shown-no_edit outcome.reply (ap (λ (x : Outcome). x.reply) e ∙ is.1) made
 
-  edited_unwritten : (IsEdit : Result Edits Fault → Type 0) (outcome : Outcome) → IsChangeOutcome c (editing IsEdit) (Ok outcome)
-      → outcome.writes ≡ [] → MadeAnEdit outcome.reply → ⊥
-  edited_unwritten IsEdit outcome (inl (fault, refused, e)) none made = no_both outcome fault e
-  edited_unwritten IsEdit outcome (inr (text, is, inl (fault, refused, e))) none made = no_both outcome fault e
-  edited_unwritten IsEdit outcome (inr (text, is, inr (p, opened, inl (fault, refused, e)))) none made = no_both outcome fault e
-  edited_unwritten IsEdit outcome (inr (text, is, inr (p, opened, inr (told, done, inl (same, e))))) none made = subst (λ (x : Outcome). MadeAnEdit x.reply) e made
-  edited_unwritten IsEdit outcome (inr (text, is, inr (p, opened, inr ((tool, edited), done, inr (differs, (plan, planned, e)))))) none made =
-      let both = sym none ∙ ap (λ (x : Outcome). x.writes) e in cc
-
   look-no_edit : (look : Look) (outcome : Outcome) → IsRequestOutcome c (look_of look) (Ok outcome) → MadeAnEdit outcome.reply → ⊥
   look-no_edit (Show pick form collapse) outcome is made = printed-no_edit (IsShow c.file pick form collapse) outcome is made
   look-no_edit (Info record_type form) outcome is made = printed-no_edit (IsInfoOf c.file record_type form) outcome is made
@@ -147,7 +156,10 @@ module _ (c : Contents) (o : Opened) (opens : Opens c.file c.journal o) (drifted
   look-no_edit (Log style) outcome is made = printed-no_edit (IsWholeLog style c.file c.journal) outcome is made
 
   change-written : (change : AskedChange) (outcome : Outcome) → IsChangeOutcome c change (Ok outcome) → outcome.writes ≡ [] → MadeAnEdit outcome.reply → ⊥
-  change-written (editing IsEdit) outcome is none made = edited_unwritten IsEdit outcome is none made
+  change-written (editing IsEdit) outcome is none made =
+      put-written (λ _. IsMade IsEdit c.file) (λ o. edit_reply o.next o.dropped) outcome (put_on c (λ _. IsMade IsEdit c.file) (λ o. edit_reply o.next o.dropped) outcome is) none made
+  change-written (writing force over text) outcome is none made =
+      put-written (λ _. IsWritten force over text c.file) (λ o. write_reply o.next o.dropped) outcome is none made
   change-written (moving direction through) outcome is none made = ok_is_no_err outcome Drifted ⊥ (sym (no_move direction through (Ok outcome) is))
   change-written (reverting number force) outcome is none made = no_revert number force outcome is
   change-written (forgetting n dropping) outcome is none made = ok_is_no_err outcome Drifted ⊥ (sym (nothing_forgotten n dropping (Ok outcome) is))

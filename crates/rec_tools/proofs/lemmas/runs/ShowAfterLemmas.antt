@@ -17,13 +17,14 @@ use Rattle.rec_diff.specs.Diffs.{IsDiff}
 use Rattle.rec_tools.specs.declared.request.Reply.{Reply}
 use Rattle.rec_tools.specs.declared.request.Reply.TheVariants.{Shown}
 use Rattle.rec_tools.specs.Home.{Contents, written}
-use Rattle.rec_tools.specs.Requests.{AskedChange, editing, moving, reverting, forgetting, adopting, showing, change_of}
+use Rattle.rec_tools.specs.Requests.{AskedChange, editing, moving, reverting, forgetting, adopting, writing, showing, change_of}
 use Rattle.rec_tools.specs.Reverting.{IsRevertOf}
-use Rattle.rec_tools.specs.Outcomes.{Outcome, IsMade, IsPutBy, edit_reply, revert_reply, IsChangeOutcome, IsRequestOutcome, IsPreviewText, IsPreviewFrom, LeadsAcross, LeadsFrom, printing}
+use Rattle.rec_tools.specs.Outcomes.{Outcome, IsMade, IsWritten, IsPutOn, edit_reply, revert_reply, write_reply, IsChangeOutcome, IsRequestOutcome, IsPreviewText, IsPreviewFrom}
+use Rattle.rec_tools.specs.Outcomes.{LeadsAcross, LeadsFrom, printing}
 use Rattle.rec_tools.specs.Laws.{MadeAnEdit, PreviewIsShowAfter, AdoptionIsShownAfter}
 use Rattle.rec_text.proofs.lemmas.FaultLemmas.{no_both, ok_is_no_err, same_value}
 use Rattle.rec_tools.proofs.lemmas.outcomes.OpeningLemmas.{move_differs}
-use Rattle.rec_tools.proofs.lemmas.outcomes.FromLemmas.{from_file}
+use Rattle.rec_tools.proofs.lemmas.outcomes.FromLemmas.{put_on, from_file}
 use Rattle.rec_tools.proofs.lemmas.outcomes.OutcomeLemmas.{one_change, one_change_outcome}
 
 -- the file is another one, and an edit more can be taken back
@@ -37,12 +38,11 @@ record GrewByOne (c d : Contents) : Type 0 where
 
 -- so it can after what made an edit of it
 grew-put : (c : Contents) (MakesOf : Opened → Result (Tool × Edited) Fault → Type 0) (reply_for : Opened → Tool → Edited → Reply) (done : Outcome)
-    → MadeAnEdit done.reply → IsPutBy MakesOf reply_for c (Ok done) → GrewByOne c (written c done.writes)
+    → MadeAnEdit done.reply → IsPutOn MakesOf reply_for c (Ok done) → GrewByOne c (written c done.writes)
 grew-put c MakesOf reply_for done made (inl (fault, refused, e)) = absurd (no_both done fault e)
-grew-put c MakesOf reply_for done made (inr (text, is, inl (fault, refused, e))) = absurd (no_both done fault e)
-grew-put c MakesOf reply_for done made (inr (text, is, inr (o, opens, inl (fault, refused, e)))) = absurd (no_both done fault e)
-grew-put c MakesOf reply_for done made (inr (text, is, inr (o, opens, inr (told, is_made, inl (same, e))))) = absurd (subst (λ (x : Outcome). MadeAnEdit x.reply) e made)
-grew-put c MakesOf reply_for done made (inr (text, is, inr (o, opens, inr ((tool, edited), is_made, inr (differs, (plan, planned, e)))))) =
+grew-put c MakesOf reply_for done made (inr (o, opens, inl (fault, refused, e))) = absurd (no_both done fault e)
+grew-put c MakesOf reply_for done made (inr (o, opens, inr (told, is_made, inl (same, e)))) = absurd (subst (λ (x : Outcome). MadeAnEdit x.reply) e made)
+grew-put c MakesOf reply_for done made (inr (o, opens, inr ((tool, edited), is_made, inr (differs, (plan, planned, e))))) =
     subst (λ (x : Outcome). GrewByOne c (written c x.writes)) (sym e) (record {
       differ = λ same. differs (sym planned.planned.1 ∙ same);
       before = o;
@@ -54,8 +54,12 @@ grew-put c MakesOf reply_for done made (inr (text, is, inr (o, opens, inr ((tool
 
 -- so it can after what made an edit, or made one again
 grew : (c : Contents) (change : AskedChange) (done : Outcome) → MadeAnEdit done.reply → IsChangeOutcome c change (Ok done) → GrewByOne c (written c done.writes)
-grew c (editing IsEdit) done made is = grew-put c (λ _. IsMade IsEdit c.file) (λ o. edit_reply o.next o.dropped) done made is
-grew c (reverting number force) done made is = grew-put c (λ o. IsRevertOf number force o c.file) (λ o. revert_reply number o.next) done made is
+grew c (editing IsEdit) done made is =
+    grew-put c (λ _. IsMade IsEdit c.file) (λ o. edit_reply o.next o.dropped) done made (put_on c (λ _. IsMade IsEdit c.file) (λ o. edit_reply o.next o.dropped) done is)
+grew c (reverting number force) done made is =
+    grew-put c (λ o. IsRevertOf number force o c.file) (λ o. revert_reply number o.next) done made
+    (put_on c (λ o. IsRevertOf number force o c.file) (λ o. revert_reply number o.next) done is)
+grew c (writing force over text) done made is = grew-put c (λ _. IsWritten force over text c.file) (λ o. write_reply o.next o.dropped) done made is
 grew c (moving direction through) done made (inl (fault, refused, e)) = absurd (no_both done fault e)
 grew c (moving Backward through) done made (inr (o, opens, (settled, here, m))) = absurd (subst (λ (x : Outcome). MadeAnEdit x.reply) m.is made)
 grew c (moving Forward through) done made (inr (o, opens, (settled, here, m))) =

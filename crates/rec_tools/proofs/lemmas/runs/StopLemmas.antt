@@ -13,9 +13,11 @@ use Rattle.rec_journal.specs.declared.event.Tool.{Tool}
 use Rattle.rec_tools.specs.declared.request.Reply.{Reply}
 use Rattle.rec_tools.specs.Home.{Contents, Write, writes_by, written, Call, left_by_all}
 use Rattle.rec_tools.specs.Printouts.{Printed}
-use Rattle.rec_tools.specs.Requests.{AskedChange, editing, moving, reverting, forgetting, adopting, Asked, looking, listing, showing, listing_changes, changing, previewing, asked_of, reads_of}
+use Rattle.rec_tools.specs.Requests.{AskedChange, editing, moving, reverting, forgetting, adopting, writing, Asked, looking, listing, showing, listing_changes, changing, previewing}
+use Rattle.rec_tools.specs.Requests.{asked_of, reads_of}
 use Rattle.rec_tools.specs.Reverting.{IsRevertOf}
-use Rattle.rec_tools.specs.Outcomes.{Outcome, IsChangeOutcome, IsRequestOutcome, IsMade, IsPutBy, edit_reply, revert_reply, Adopts}
+use Rattle.rec_tools.specs.Outcomes.{Outcome, IsChangeOutcome, IsRequestOutcome, IsMade, IsWritten, IsPutOn, edit_reply, revert_reply, write_reply, Adopts}
+use Rattle.rec_tools.proofs.lemmas.outcomes.FromLemmas.{put_on}
 use Rattle.rec_tools.specs.Attempts.{Answer, StopsWriting, IsAnswered, IsCarriedOut, Does}
 use Rattle.rec_tools.specs.Machine.{State, IsOldOrNext, Stands}
 use Rattle.rec_tools.specs.Guarantee.{StopsAreSteps, WritesAreRegular}
@@ -99,18 +101,21 @@ module _ (c : Contents) (regular : IsRegular c.journal) where
   -- ---- an outcome
 
   leaves-put : (MakesOf : Opened → Result (Tool × Edited) Fault → Type 0) (reply_for : Opened → Tool → Edited → Reply) (outcome : Outcome)
-      → IsPutBy MakesOf reply_for c (Ok outcome) → Leaves c outcome.writes
+      → IsPutOn MakesOf reply_for c (Ok outcome) → Leaves c outcome.writes
   leaves-put MakesOf reply_for outcome (inl refused) = let e = refused.2 in cc
-  leaves-put MakesOf reply_for outcome (inr (text, is, inl refused)) = let e = refused.2 in cc
-  leaves-put MakesOf reply_for outcome (inr (text, is, inr (o, opens, inl refused))) = let e = refused.2 in cc
-  leaves-put MakesOf reply_for outcome (inr (text, is, inr (o, opens, inr (made, done, inl (same, e))))) =
+  leaves-put MakesOf reply_for outcome (inr (o, opens, inl refused)) = let e = refused.2 in cc
+  leaves-put MakesOf reply_for outcome (inr (o, opens, inr (made, done, inl (same, e)))) =
       leaves-nothing outcome.writes (ap (λ (x : Outcome). x.writes) e)
-  leaves-put MakesOf reply_for outcome (inr (text, is, inr (o, opens, inr (made, done, inr (differs, (plan, planned, e)))))) =
+  leaves-put MakesOf reply_for outcome (inr (o, opens, inr (made, done, inr (differs, (plan, planned, e))))) =
       subst (λ (x : Outcome). Leaves c x.writes) (sym e) (leaves-plan o _ opens plan planned.safe)
 
   leaves_change : (change : AskedChange) (outcome : Outcome) → IsChangeOutcome c change (Ok outcome) → Leaves c outcome.writes
-  leaves_change (editing IsEdit) outcome is = leaves-put (λ _. IsMade IsEdit c.file) (λ o. edit_reply o.next o.dropped) outcome is
-  leaves_change (reverting number force) outcome is = leaves-put (λ o. IsRevertOf number force o c.file) (λ o. revert_reply number o.next) outcome is
+  leaves_change (editing IsEdit) outcome is =
+      leaves-put (λ _. IsMade IsEdit c.file) (λ o. edit_reply o.next o.dropped) outcome (put_on c (λ _. IsMade IsEdit c.file) (λ o. edit_reply o.next o.dropped) outcome is)
+  leaves_change (reverting number force) outcome is =
+      leaves-put (λ o. IsRevertOf number force o c.file) (λ o. revert_reply number o.next) outcome
+      (put_on c (λ o. IsRevertOf number force o c.file) (λ o. revert_reply number o.next) outcome is)
+  leaves_change (writing force over text) outcome is = leaves-put (λ _. IsWritten force over text c.file) (λ o. write_reply o.next o.dropped) outcome is
   leaves_change (moving direction through) outcome (inl refused) = let e = refused.2 in cc
   leaves_change (moving direction through) outcome (inr (o, opens, (settled, here, m))) =
       subst (λ (x : Outcome). Leaves c x.writes) (sym m.is) (leaves-plan o _ opens m.plan m.safe)

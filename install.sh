@@ -1,5 +1,6 @@
 #!/usr/bin/env bash
-# Installs recu: the program, the script recu-edit, their man pages, and completions for bash, zsh and fish. Builds it first, where it isn't built.
+# Installs recu: the program, the script recu-edit, their man pages, and completions for bash, zsh and fish. Builds the program
+# first, where it isn't built.
 #     bash install.sh [PREFIX]               into PREFIX, or into ~/.local
 #     bash install.sh --unproved [PREFIX]    the program that is built without proofs, in minutes, and is much slower
 #     bash install.sh --remove [PREFIX]      removes from there what it installed

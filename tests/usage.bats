@@ -61,7 +61,7 @@ silent() {
 
 # example TOOL COMMAND: an example of the tool's help does something well on copies of the samples
 example() {
-    local journal=()
+    local journal=() input=$input
     rm -f -- library.rec* contacts.rec* edits.rec*
     cp -- "$top/sample/library.rec" "$top/sample/contacts.rec" "$top/sample/changes.rec" .
     [[ $2 != *' --journal '* ]] || journal=(--journal edits.rec)
@@ -82,7 +82,11 @@ example() {
         sed 's/Ada/Eve/' contacts.rec > new.rec
     fi
     cp contacts.rec contacts.rec.before
-    eval "${2/recu $1/recu 0 $1}"
+    if [[ $2 == *' | '* ]]; then
+        eval "${2% | *}" > filtered
+        input=filtered
+    fi
+    eval "recu 0 ${2##*recu }"
     silent
     case $1 in
         recsel | recinf | history | show) [ -n "$(out)" ] || fail "$2 prints nothing" ;;
@@ -113,7 +117,7 @@ example() {
             [[ $line == *" recu $tool "* ]] || fail "the help of $tool has an example of another tool: $line"
             example "$tool" "$line"
             number=$((number + 1))
-        done < <(sed -n '/^Examples:$/,$ { /^  \(.* | \)*recu /p }' help)
+        done < <(sed -n '/^Examples:$/,$ { /^  \(sed .* | \)*recu /p }' help)
         [ "$number" -ge 2 ] || fail "the help of $tool has $number examples"
     done
     recu 0 --help

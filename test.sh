@@ -58,9 +58,9 @@ proofs() {
 }
 
 # Says, in seconds, which wrong body doesn't apply any more, which public function has none, and which of those that ask for
-# memory no test refuses it; whether docs/guarantees.md counts what has to be read for a clause, and names clauses that are
-# there; which line of a clause, a definition or a proof is too long, and which sentence for users; and in which places words
-# stand that are to be avoided.
+# memory no test refuses it; whether docs/guarantees.md counts what has to be read for a clause, and whether that page and the
+# READMEs of the crates name clauses that are there; which line of a clause, a definition or a proof is too long, and which
+# sentence for users; and in which places words stand that are to be avoided.
 looks() {
     local look
     for look in 'wrong-bodies.py applied' 'wrong-bodies.py covered' allocating.py 'reading-list.py compare' \

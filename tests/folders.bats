@@ -387,6 +387,12 @@ noted() {
     rm calls noted
 }
 
+# saved_and_noted NUMBER FOLDERS SAVED WORD..: another program saves the text in the file, and recu with these words adopts it
+saved_and_noted() {
+    put "${@: -1}" "$3"
+    noted "$1" "$2" adopt "${@:4}"
+}
+
 # The requests of rec_crashes, in words: all that it has.
 all_noted() {
     local set='Tool: recset¶Number: 0¶Fields: A¶Set: 5¶' words=("${@:2}")
@@ -398,15 +404,27 @@ all_noted() {
     noted 2 "$1" undo "${words[@]}"
     noted 3 "$1" redo "${words[@]}"
     noted 4 "$1" forget 1 "${words[@]}"
-    put "${words[-1]}" 'A: 6¶'
-    put changes 'A: 5¶¶A: 2¶'
-    noted 5 "$1" adopt changes "${words[@]}"
+    put old 'A: 5¶¶A: 2¶'
+    saved_and_noted 5 "$1" 'A: 6¶' old "${words[@]}"
     put changes 'A: 7¶¶A: 6¶'
     put old 'A: 6¶'
     noted 6 "$1" write --over old changes "${words[@]}"
+    saved_and_noted 7 "$1" 'A: 6¶¶A: 7¶' old "${words[@]}"
+    put old 'A: 6¶¶A: 7¶'
+    saved_and_noted 8 "$1" 'A: 6¶¶A: 7¶¶A: 8¶' old "${words[@]}"
+    put old 'A: 6¶¶A: 7¶¶A: 8¶'
+    saved_and_noted 9 "$1" 'A: 6¶¶A: 7¶¶A: 8' old "${words[@]}"
+    put old 'A: 6¶¶A: 7¶¶A: 8'
+    saved_and_noted 10 "$1" 'A: 6\x0D¶\x0D¶A: 7\x0D¶\x0D¶A: 8\x0D¶' old "${words[@]}"
+    put old 'A: 6\x0D¶\x0D¶A: 7\x0D¶\x0D¶A: 8\x0D¶'
+    saved_and_noted 11 "$1" 'A: 6¶¶A 7¶' old "${words[@]}"
+    put changes 'A: 6¶¶A: 9¶'
+    noted 12 "$1" write changes "${words[@]}"
+    saved_and_noted 13 "$1" '' changes "${words[@]}"
+    saved_and_noted 14 "$1" 'A: 7¶¶A: 6¶' "${words[@]}"
     put changes 'Tool: recins¶Field: B¶Value: 3¶'
-    noted 7 "$1" batch -b changes "${words[@]}"
-    [ "$("$stories" log 8 "$1")" = 'usage: rec_crashes [log NUMBER FOLDERS]' ] || fail 'there is a request more'
+    noted 15 "$1" batch -b changes "${words[@]}"
+    [ "$("$stories" log 16 "$1")" = 'usage: rec_crashes [log NUMBER FOLDERS]' ] || fail 'there is a request more'
 }
 
 @test "what is done to files is what is noted on a disk in memory" {

@@ -646,6 +646,10 @@ says_on_a_terminal() {
     fast says_on_a_terminal 0 recset --dry-run -n 0 -f A -s 2 db.rec
     # the file has the value already
     fast says_on_a_terminal 0 recset -n 0 -f A -s 1 db.rec
+    # the file was changed outside since
+    does recset -n 0 -f A -s 2 db.rec
+    put db.rec "$three"'# x¶'
+    fast says_on_a_terminal 0 history db.rec
 }
 
 @test "memory for an edit that there isn't" {

@@ -182,6 +182,26 @@ load helpers
     has f 'A: 1¶'
 }
 
+@test "on a terminal a history from which the file has drifted says how to adopt" {
+    local words adopt='f: recu adopt OLD f makes the change an edit, OLD being the text before it or any of the history'
+    put f 'A: 1¶'
+    does recset -f A -s 2 f
+    for words in 'history f' 'history --patch f'; do
+        put f 'A: 3¶'
+        TERM=dumb script -qec "'$recu' $words > printed" /dev/null > seen
+        has printed 'drifted¶'
+        printf '%s\r\n' "$adopt" 'f: else the next edit begins a new history' | has seen
+        recu 0 $words
+        prints 'drifted¶' ''
+        # the last text, and the one before the last edit, which doesn't count then
+        for text in 'A: 2¶' 'A: 1¶'; do
+            put f "$text"
+            TERM=dumb script -qec "'$recu' $words > printed" /dev/null > seen
+            has seen ''
+        done
+    done
+}
+
 @test "nothing is said of it in scripts and pipes" {
     put f 'A: 1¶'
     recu 0 recset -f A -s 2 f

@@ -1,6 +1,7 @@
 #!/usr/bin/env python3
-"""Compares the rows of promises in docs/guarantees.md with the sources: whether each call is a function, a type or a trait, each
-clause one of a call of its row, or a part of a definition there, and each definition stands in the specs or is declared.
+"""Compares the rows of promises in docs/guarantees.md and the crates' READMEs with the sources: whether each call is a function,
+a type or a trait, each clause one of a call of its row, or a part of a definition there, and each definition stands in the specs
+or is declared.
 
 Where it says something it ends with 1. What a clause says is for people to compare."""
 import functools
@@ -13,15 +14,15 @@ sys.dont_write_bytecode = True
 import definitions
 import functions
 
-TABLE = "docs/guarantees.md"
+PAGES = ["docs/guarantees.md", *sorted(glob.glob("crates/*/README.md"))]
 HEAD = "| Promise | Call | Clause | Definition |"
 CODE = re.compile(r"`([^`]+)`")
 
 
-def rows():
+def rows(page):
     """The number of the line of each row of promises, and its cells."""
     is_table = False
-    for number, line in enumerate(definitions.lines_of(TABLE), 1):
+    for number, line in enumerate(definitions.lines_of(page), 1):
         is_table = line == HEAD or is_table and line.startswith("|")
         if is_table and line != HEAD and not line.startswith("|-"):
             yield number, [cell.strip() for cell in re.split(r"(?<!\\)\|", line)[1:-1]]
@@ -102,7 +103,7 @@ def faults_of(cells):
 
 
 def main():
-    said = [f"{TABLE}:{number}: {fault}" for number, cells in rows() for fault in faults_of(cells)]
+    said = [f"{page}:{number}: {fault}" for page in PAGES for number, cells in rows(page) for fault in faults_of(cells)]
     for line in said:
         print(line)
     sys.exit(1 if said else 0)

@@ -16,6 +16,8 @@ import sys
 sys.dont_write_bytecode = True
 import definitions
 
+# What is asked for: the theorem holds whatever it is, so its first page ends at these.
+ASKED = {"asked_of", "Request"}
 CLAUSES = [
     ("rec_tools", "run_all", "guarantee"),
     ("rec_tools", "run_all", "failing_stores"),
@@ -26,6 +28,18 @@ CLAUSES = [
     ("rec_files", "run", "attempts"),
     ("recu", "status", "status"),
 ]
+# What each request asks for, with the definitions of rec_tools in which it stands.
+MEANINGS = {
+    "an edit": ["Requests.IsOneEdit", "Requests.IsMade"],
+    "a batch": ["Requests.IsBatch", "Requests.IsMade"],
+    "a selection": ["Printouts.IsShow"],
+    "a list of the types": ["Printouts.IsInfoOf"],
+    "a report": ["Printouts.IsReportText", "Requests.AreViolationsOf"],
+    "a diff": ["Requests.as_diff"],
+    "a revert": ["Reverting.IsReverted"],
+    "an adoption": ["Outcomes.IsAdoption"],
+    "a whole text": ["Writing.IsWritten"],
+}
 TABLE = "docs/guarantees.md"
 HEAD = ["| Clause | Definitions | Lines | Files | Of them in a list above |", "|---|---|---|---|---|"]
 PART = r"(^## What has to be read\n(?:(?!\||## ).*\n)*)((?:\|.*\n)*)"
@@ -78,13 +92,14 @@ def needs(definition):
     return [target for target in targets if target]
 
 
-def reached(targets):
-    """The definitions on which these stand, in the order in which they are needed, and the names of the toolchain."""
+def reached(targets, ends=frozenset()):
+    """The definitions on which these stand, in the order in which they are needed, without those of names at which it
+    ends; and the names of the toolchain."""
     found, others, waiting = {}, set(), list(targets)
     for target in waiting:
         if not target.definition:
             others.add(target.name)
-        elif target.definition not in found:
+        elif target.definition not in found and target.name not in ends:
             found[target.definition] = None
             waiting.extend(needs(target.definition))
     return [*found], others
@@ -171,8 +186,22 @@ def row(name, those, seen):
     return f"| {name} | {' | '.join(map(str, sizes))} |"
 
 
+def meant_by(names):
+    """What the names of a meaning stand for."""
+    parts = [name.split(".") for name in names]
+    return [definitions.meaning(f"crates/rec_tools/specs/{module}.antt", name) for module, name in parts]
+
+
 def table():
     rows, seen = list(HEAD), set()
+    those, _ = reached(targets_of(*CLAUSES[0]), ASKED)
+    rows.append(row("`guarantee` of `run_all`, `rec_tools`, whatever is asked for", those, seen))
+    seen.update(those)
+    for name, names in MEANINGS.items():
+        those, _ = reached(meant_by(names))
+        spelled = ", ".join(f"`{one.split('.')[1]}`" for one in names)
+        rows.append(row(f"what {name} is: {spelled}", those, seen))
+        seen.update(those)
     for crate, function, clause in CLAUSES:
         those, _ = reached(targets_of(crate, function, clause))
         rows.append(row(f"`{clause}` of `{function}`, `{crate}`", those, seen))

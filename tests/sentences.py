@@ -1,6 +1,6 @@
 #!/usr/bin/env python3
-"""Finds sentences that are too long in the documents for users: in README.md and the pages that it names for them, those of more
-than 40 words, and in its section on what is proved those of more than 30, or more than eight sentences.
+"""Finds sentences that are too long: in README.md, the pages that it names for users and docs/guarantees.md, those of more than 40
+words, and in README's section on what is proved those of more than 30, or more than eight sentences.
 
 Code counts as one word. In a table each cell is a text of its own, and in one that lists things in an order a `;` ends a part.
 Where it says something it ends with 1."""
@@ -20,7 +20,7 @@ def text_of(name):
 
 def pages():
     row = re.search(r"^\| For users \| (.*) \|$", text_of("README.md"), re.M)
-    return ["README.md", *re.findall(r"\]\(([^)#]+)\)", row[1])]
+    return ["README.md", *re.findall(r"\]\(([^)#]+)\)", row[1]), "docs/guarantees.md"]
 
 
 def paragraphs(text):

@@ -8,8 +8,8 @@ ghost use Rattle.rec_diff.specs.proving.Cutting.{AreCuts, IsInner, ArePassed, hu
 ghost use Rattle.rec_diff.specs.proving.Passages.{origin};
 ghost use Rattle.rec_diff.specs.proving.Turns.{AreIn, IsIn, IsLining, site_of, sites};
 
-mod choosing;
-mod landmarks;
+pub mod choosing;
+pub mod landmarks;
 
 use crate::comparing::choosing::longest;
 use crate::comparing::landmarks::landmarks_between;

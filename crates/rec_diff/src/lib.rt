@@ -19,6 +19,8 @@ mod reverting;
 mod style;
 mod turn;
 
+pub use comparing::choosing::longest;
+pub use comparing::landmarks::{Line, only_place};
 pub use comparing::{hunks_between, step_by_lines};
 pub use composing::{compose, compose_all};
 pub use diffs::{one_diff, write_diff};
@@ -31,3 +33,4 @@ pub use rec_journal::{Hunk, Patch};
 pub use rec_text::{Bytes, Fault, Sink};
 pub use reverting::{fields_are_kept, newest_reverts, one_revert, revert, reverts_leave_the_rest};
 pub use style::DiffStyle;
+pub use turn::Place;

@@ -1,12 +1,12 @@
-//! Places in two texts.
+//! Places in two texts, or in two lists.
 ghost use Rattle.std.specs.Prelude.{◌≡◌, map, IfOk};
 ghost use Rattle.rec_diff.specs.proving.Weaving.{turn_turned};
 
 use std::alloc::{AllocError, Global};
 
-/// A place in the text before, and one in the text after.
+/// A place in the text before, and one in the text after; or in the one of two lists, and in the other.
 #[derive(Clone, Copy)]
-pub(crate) struct Place {
+pub struct Place {
     pub old: usize,
     pub new: usize,
 }

@@ -5,6 +5,7 @@ ghost use Rattle.rec_explain.specs.Lines.{AreLines, IsShown};
 use crate::about::About;
 use crate::dropped::{say_what_is_dropped, say_what_was_undone};
 use crate::explanation::Explanation;
+use crate::files::explain_adoption;
 use crate::forced::list_violations;
 use crate::refusal::change_in;
 use crate::unchanged::explain_unchanged;
@@ -16,8 +17,8 @@ use std::alloc::{AllocError, Global};
 use std::str;
 
 /// What is said of a command that succeeded: always that it ended the undo of earlier edits, where it did, and which rules an
-/// edit broke, where it was forced; and on a terminal what it did, or why it changed nothing. Of a dry run it is said what it
-/// would do.
+/// edit broke, where it was forced; and on a terminal what it did, or why it changed nothing, or how a history goes on from
+/// which the file has drifted. Of a dry run it is said what it would do.
 pub fn explain_done(
     alloc: Global,
     about: &About<'_>,
@@ -87,6 +88,7 @@ fn say_what_came_of_it(
             explain_unchanged(alloc, about, change, response.texts(), chosen, false, said);
         }
         (Request::Preview(_, _), reply) => say(would(alloc, &reply), said),
+        (_, Reply::Drifted) => explain_adoption(about.file, said),
         (_, reply) => say(done(alloc, &reply), said),
     }
     if let (Request::Change(Change::Edit { edit, .. }), Reply::Edited { .. }) = (
@@ -152,7 +154,9 @@ pub fn done(alloc: Global, reply: &Reply) -> Result<String, AllocError> {
         Reply::Forgotten { older, dropped } => forgotten(alloc, *older, *dropped),
         Reply::Adopted(number) => format!(in alloc; "adopted (edit {number})"),
         Reply::Written { number, .. } => format!(in alloc; "written (edit {number})"),
-        Reply::Shown | Reply::Violated(_) | Reply::Unchanged { .. } => Ok(String::new(alloc)),
+        Reply::Shown | Reply::Drifted | Reply::Violated(_) | Reply::Unchanged { .. } => {
+            Ok(String::new(alloc))
+        }
     }
 }
 
@@ -187,9 +191,11 @@ fn would(alloc: Global, reply: &Reply) -> Result<String, AllocError> {
         }
         Reply::Adopted(_) => String::from_str(alloc, "it would be adopted"),
         Reply::Written { .. } => String::from_str(alloc, "it would be written"),
-        Reply::Shown | Reply::Violated(_) | Reply::Unchanged { .. } | Reply::Forgotten { .. } => {
-            Ok(String::new(alloc))
-        }
+        Reply::Shown
+        | Reply::Drifted
+        | Reply::Violated(_)
+        | Reply::Unchanged { .. }
+        | Reply::Forgotten { .. } => Ok(String::new(alloc)),
     }
 }
 

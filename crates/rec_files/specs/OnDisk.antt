@@ -1,7 +1,6 @@
 -- What a file and its journal hold on a disk, and what a stop of the program or a crash of the machine leaves of them.
-use Rattle.std.specs.Prelude.{◌≡◌, ◌≢◌, ◌⊎◌, ◌≤◌, ℕ, Bool, true, false, List, [], ◌∷◌, length, take, Option, Some, None}
-use Rattle.std.specs.Prelude.{IfSome, option_map}
-use Rattle.std.specs.Prelude.{IsSome, IsSomeAnd, Err}
+use Rattle.std.specs.Prelude.{◌≡◌, ◌≢◌, ◌⊎◌, ◌≤◌, ℕ, Bool, true, false, List, [], ◌∷◌, length, take, Option, Some}
+use Rattle.std.specs.Prelude.{None, IfSome, option_map, IsSome, IsSomeAnd, Err}
 use Rattle.rec_text.specs.declared.fault.Fault.TheVariants.{StoreFailed}
 use Rattle.rec_disk.specs.Disk.{State, Story, Told, AtAnyMoment}
 use Rattle.rec_disk.specs.declared.log.Rights.{Rights}
@@ -12,9 +11,11 @@ use Rattle.rec_tools.specs.Home.{TellsOf, CountsFailure, content_of}
 use Rattle.rec_tools.specs.declared.home.Which.{Which}
 use Rattle.rec_tools.specs.declared.home.Which.TheVariants.{Base}
 use Rattle.rec_journal.specs.History.{IsRegular}
-use Rattle.rec_tools.specs.Requests.{Asked}
+use Rattle.rec_tools.specs.Asked.{Asked}
 use Rattle.rec_tools.specs.Attempts.{Answer}
-use Rattle.rec_tools.specs.Machine.{State as Machine, IsOldOrNext, Stands}
+use Rattle.rec_tools.specs.Stands.{Stands}
+use Rattle.rec_tools.specs.Answers.{IsOldOrNext}
+use Rattle.rec_tools.specs.States.{State as Machine}
 use Rattle.rec_disk.specs.Paths.{working_name}
 use Rattle.rec_files.specs.Leftovers.{BeginsAsJournal, IsLeftJournal, IsLeftText, IsStopBetween}
 

@@ -3,7 +3,8 @@ ghost use Rattle.std.specs.Prelude.{◌≡◌, ◌⊎◌, List, IfErr, IfSome, I
 ghost use Rattle.rec_tools.specs.Home.{Call};
 ghost use Rattle.rec_tools.specs.Steps.{IsRefusal};
 ghost use Rattle.rec_tools.specs.Printouts.{Printed, WentOut, IsSilence};
-ghost use Rattle.rec_tools.specs.Requests.{changing, change_of, asked_of, IsChange};
+ghost use Rattle.rec_tools.specs.Requests.{change_of, asked_of, IsChange};
+ghost use Rattle.rec_tools.specs.Asked.{changing};
 ghost use Rattle.rec_tools.specs.Attempts.{Answer, Attempts, AttemptsAll};
 ghost use Rattle.rec_tools.specs.Through.{move_through, moves_through, EndsThrough, PreviewsThrough};
 ghost use Rattle.rec_files.specs.Succeeding.{HomeGoes};

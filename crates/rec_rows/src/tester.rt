@@ -39,6 +39,7 @@ pub struct Tester {
 fn say(said: &mut String, answer: &Result<Reply, Refusal>) -> Result<(), AllocError> {
     match answer {
         Ok(Reply::Shown) => said.push_str("shown"),
+        Ok(Reply::Drifted) => said.push_str("drifted"),
         Ok(Reply::Violated(count)) => write!(said, "violated {count}"),
         Ok(Reply::Edited { changed, .. }) => write!(said, "edited {changed}"),
         Ok(Reply::Unchanged { .. }) => said.push_str("unchanged"),

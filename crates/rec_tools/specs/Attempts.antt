@@ -10,7 +10,8 @@ use Rattle.rec_tools.specs.declared.request.Reply.{Reply}
 use Rattle.rec_tools.specs.Home.{Contents, content_of, Write, written, Call, got, lacked, unread, put_all, put_some}
 use Rattle.rec_tools.specs.Home.{TellAll, Went}
 use Rattle.rec_tools.specs.Printouts.{Printed, IsBoth, IsSilence}
-use Rattle.rec_tools.specs.Requests.{Asked, asked_of, reads_of}
+use Rattle.rec_tools.specs.Requests.{asked_of}
+use Rattle.rec_tools.specs.Asked.{Asked, reads_of}
 use Rattle.rec_tools.specs.Outcomes.{Outcome, IsRequestOutcome}
 
 abbrev pub Answer : Type 0

@@ -6,22 +6,27 @@ use Rattle.rec_journal.specs.History.{IsRegular}
 use Rattle.rec_tools.specs.declared.request.Request.{Request}
 use Rattle.rec_tools.specs.Home.{Contents, written, Call, left_by_all}
 use Rattle.rec_tools.specs.Printouts.{Printed, IsBoth, IsSilence}
-use Rattle.rec_tools.specs.Requests.{Asked, asked_of}
+use Rattle.rec_tools.specs.Requests.{asked_of}
+use Rattle.rec_tools.specs.Asked.{Asked}
 use Rattle.rec_tools.specs.Outcomes.{Outcome, IsRequestOutcome}
 use Rattle.rec_tools.specs.Attempts.{Answer, StopsWriting}
-use Rattle.rec_tools.specs.Machine.{State, IsMachineStep, IsOldOrNext, IsAnswer, Clashes, Stands}
+use Rattle.rec_tools.specs.Machine.{IsMachineStep}
+use Rattle.rec_tools.specs.Stands.{Stands}
+use Rattle.rec_tools.specs.Answers.{IsOldOrNext, IsAnswer, Clashes}
+use Rattle.rec_tools.specs.States.{State}
 
--- Contents and the machine's state go through the requests together: each answer is one that the machine allows, so is
--- what is printed, and after each request the contents that its calls left stand for the machine's state.
-abbrev pub RunsAsMachine : Contents → State → List Request → List Answer → List Call → Printed → State → Type 0
-RunsAsMachine c s [] [] calls p t = (calls ≡ []) × IsSilence p × (t ≡ s)
-RunsAsMachine c s [] (answer ∷ answers) calls p t = ⊥
-RunsAsMachine c s (request ∷ requests) [] calls p t = ⊥
-RunsAsMachine c s (request ∷ requests) (answer ∷ answers) calls p t =
+-- Whatever requests ask for, contents and the machine's state go through them together: each answer is one that the
+-- machine allows, so is what is printed, and after each request the contents that its calls left stand for the state.
+abbrev pub RunsAsMachine : {R : Type 0} → (R → Asked) → Contents → State → List R → List Answer → List Call → Printed
+    → State → Type 0
+RunsAsMachine asks c s [] [] calls p t = (calls ≡ []) × IsSilence p × (t ≡ s)
+RunsAsMachine asks c s [] (answer ∷ answers) calls p t = ⊥
+RunsAsMachine asks c s (request ∷ requests) [] calls p t = ⊥
+RunsAsMachine asks c s (request ∷ requests) (answer ∷ answers) calls p t =
     (now later : List Call) × (first rest : Printed) × (mid : State)
-    × (calls ≡ now ++ later) × IsBoth p first rest × IsAnswer s (asked_of request) answer now first mid
+    × (calls ≡ now ++ later) × IsBoth p first rest × IsAnswer s (asks request) answer now first mid
     × Stands (left_by_all c now) mid
-    × RunsAsMachine (left_by_all c now) mid requests answers later rest t
+    × RunsAsMachine asks (left_by_all c now) mid requests answers later rest t
 
 -- ---- the laws of one request, from which it follows
 

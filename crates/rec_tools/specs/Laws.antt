@@ -12,18 +12,21 @@ use Rattle.rec_journal.specs.History.{Opened, Opens}
 use Rattle.rec_edit.specs.declared.answer.Edited.{Edited}
 use Rattle.rec_diff.specs.declared.style.DiffStyle.{DiffStyle}
 use Rattle.rec_tools.specs.declared.request.Reply.{Reply}
-use Rattle.rec_tools.specs.declared.request.Reply.TheVariants.{Shown, Edited as EditedReply, Redone, Reverted, Written}
+use Rattle.rec_tools.specs.declared.request.Reply.TheVariants.{Shown, Edited as EditedReply, Redone, Reverted}
+use Rattle.rec_tools.specs.declared.request.Reply.TheVariants.{Written, Drifted as HasDrifted}
 use Rattle.rec_tools.specs.declared.request.Change.{Change}
 use Rattle.rec_tools.specs.declared.request.Change.TheVariants.{Undo, Redo, Revert, Forget}
-use Rattle.rec_tools.specs.declared.request.Look.TheVariants.{History}
+use Rattle.rec_tools.specs.declared.request.Look.TheVariants.{History, Log}
 use Rattle.rec_tools.specs.declared.request.Request.{Request}
 use Rattle.rec_tools.specs.Home.{Contents, written}
-use Rattle.rec_tools.specs.Requests.{AskedChange, editing, adopting, writing, Asked, showing, changing, previewing}
-use Rattle.rec_tools.specs.Requests.{look_of, change_of, asked_of}
-use Rattle.rec_tools.specs.Outcomes.{Outcome, IsMade, IsChangeOutcome, IsRequestOutcome, printing, IsEndFor, Adopts}
-use Rattle.rec_tools.specs.Outcomes.{IsWritten, edited_by_lines}
+use Rattle.rec_tools.specs.Asked.{AskedChange, editing, adopting, writing, Asked, showing, changing, previewing}
+use Rattle.rec_tools.specs.Requests.{look_of, change_of, asked_of, as_diff}
+use Rattle.rec_tools.specs.Outcomes.{Outcome, IsChangeOutcome, IsRequestOutcome, printing, IsEndFor, Adopts}
+use Rattle.rec_tools.specs.Writing.{edited_by_lines}
 use Rattle.rec_tools.specs.Attempts.{Answer}
-use Rattle.rec_tools.specs.Machine.{Entry, State, IsMachineStep, Stands, first_state, state_after_edit}
+use Rattle.rec_tools.specs.Machine.{IsMachineStep}
+use Rattle.rec_tools.specs.Stands.{Stands}
+use Rattle.rec_tools.specs.States.{Entry, State, first_state, state_after_edit}
 
 -- The machine's step is a function of the state and the request; only where `regex` may refuse a pattern, that refusal
 -- may stand instead of the other answer.
@@ -56,8 +59,8 @@ MadeAnEdit _ = ⊥
 abbrev pub PreviewIsShowAfter : Type 0
 PreviewIsShowAfter = (c : Contents) (change : Change) (style : DiffStyle) (done previewed : Outcome)
     → MadeAnEdit done.reply → IsChangeOutcome c (change_of change) (Ok done)
-    → IsRequestOutcome c (previewing style (change_of change)) (Ok previewed)
-    → IsRequestOutcome (written c done.writes) (showing None style) (Ok (printing previewed.text Shown))
+    → IsRequestOutcome c (previewing (as_diff style) (change_of change)) (Ok previewed)
+    → IsRequestOutcome (written c done.writes) (showing None (as_diff style)) (Ok (printing previewed.text Shown))
 
 -- ---- undo and redo
 
@@ -83,13 +86,13 @@ RedoBringsBack = (c : Contents) (through : Option ℕ) (done : Outcome)
 
 -- what is asked for is a preview
 abbrev pub IsPreview : Asked → Type 0
-IsPreview (previewing style change) = Unit {0}
+IsPreview (previewing Tells change) = Unit {0}
 IsPreview _ = ⊥
 
 -- what is asked for makes this of a text, told with this tool
 abbrev pub MakesOf : Asked → List ℕ → Tool → Edited → Type 0
-MakesOf (changing (editing IsEdit)) text tool made = IsMade IsEdit text (Ok (tool, made))
-MakesOf (changing (writing force over new)) text tool made = IsWritten force over new text (Ok (tool, made))
+MakesOf (changing (editing Reads Makes)) text tool made = Makes text (Ok (tool, made))
+MakesOf (changing (writing Makes)) text tool made = Makes text (Ok (tool, made))
 MakesOf _ text tool made = ⊥
 
 -- an edit begins the history anew, with the outside text as the one before it
@@ -115,8 +118,8 @@ GoesOn c o (changing (adopting old)) outcome =
     (found : End) × IsEndFor old o c (Ok found) × Adopts o c found outcome
 GoesOn c o _ outcome = ⊥
 
--- Nothing is taken back, made again, reverted or forgotten, and the history says so. What is written begins it anew, or
--- is an adoption; where nothing is, only a preview is answered as an edit is.
+-- Nothing is taken back, made again, reverted or forgotten, and the history says so, in its reply too. What is written
+-- begins it anew, or is an adoption; where nothing is, only a preview is answered as an edit is.
 pub record IsNoticed (c : Contents) (o : Opened) : Type 0 where
   pub undo : (through : Option ℕ) (r : Result Outcome Fault) → IsChangeOutcome c (change_of (Undo through)) r
       → r ≡ Err Drifted
@@ -127,7 +130,9 @@ pub record IsNoticed (c : Contents) (o : Opened) : Type 0 where
   pub forgetting : (newest : ℕ) (dropped : Bool) (r : Result Outcome Fault)
       → IsChangeOutcome c (change_of (Forget newest dropped)) r → r ≡ Err Drifted
   pub history : (r : Result Outcome Fault) → IsRequestOutcome c (look_of History) r
-      → r ≡ Ok (printing (codes "drifted\n") Shown)
+      → r ≡ Ok (printing (codes "drifted\n") HasDrifted)
+  pub log : (style : DiffStyle) (r : Result Outcome Fault) → IsRequestOutcome c (look_of (Log style)) r
+      → r ≡ Ok (printing (codes "drifted\n") HasDrifted)
   pub edits : (request : Request) (outcome : Outcome) → IsRequestOutcome c (asked_of request) (Ok outcome)
       → outcome.writes ≢ [] → BeginsAnew c o (asked_of request) outcome ⊎ GoesOn c o (asked_of request) outcome
   pub unwritten : (request : Request) (outcome : Outcome) → IsRequestOutcome c (asked_of request) (Ok outcome)
@@ -178,5 +183,5 @@ AnyTextWillDo = (c : Contents) (s : State) (o p : Opened) (changed : List ℕ) (
 abbrev pub AdoptionIsShownAfter : Type 0
 AdoptionIsShownAfter = (c : Contents) (old : Option (List ℕ)) (style : DiffStyle) (done previewed : Outcome)
     → done.writes ≢ [] → IsChangeOutcome c (adopting old) (Ok done)
-    → IsRequestOutcome c (previewing style (adopting old)) (Ok previewed)
-    → IsRequestOutcome (written c done.writes) (showing None style) (Ok (printing previewed.text Shown))
+    → IsRequestOutcome c (previewing (as_diff style) (adopting old)) (Ok previewed)
+    → IsRequestOutcome (written c done.writes) (showing None (as_diff style)) (Ok (printing previewed.text Shown))

@@ -4,12 +4,12 @@ use Rattle.std.specs.Prelude.{◌≡◌, ◌≢◌, ◌⊎◌, ℕ, ◌+◌, ◌
 use Rattle.std.specs.Prelude.{None, option_map, take, Result, Ok, Err, if◌then◌else◌}
 use Rattle.std.specs.Option.{unwrap_or}
 use Rattle.rec_text.specs.declared.fault.Fault.{Fault}
-use Rattle.rec_text.specs.declared.fault.Fault.TheVariants.{BadPattern, DigestClash, Drifted, NoSuchEdit, OtherText}
+use Rattle.rec_text.specs.declared.fault.Fault.TheVariants.{BadPattern, DigestClash, Drifted, NoSuchEdit}
 use Rattle.rec_journal.specs.declared.patch.Direction.{Direction}
 use Rattle.rec_journal.specs.declared.patch.Direction.TheVariants.{Forward, Backward}
 use Rattle.rec_journal.specs.declared.event.Revision.{Revision}
 use Rattle.rec_journal.specs.declared.event.Tool.{Tool}
-use Rattle.rec_journal.specs.declared.event.Tool.TheVariants.{Adopt as ByAdopt, Write as ByWrite}
+use Rattle.rec_journal.specs.declared.event.Tool.TheVariants.{Adopt as ByAdopt}
 use Rattle.rec_journal.specs.declared.ending.End.{End}
 use Rattle.rec_journal.specs.Ending.{digest_of, HasEnd, IsEndOf}
 use Rattle.rec_journal.specs.declared.plan.Plan.{Plan}
@@ -22,22 +22,19 @@ use Rattle.rec_journal.specs.Forgetting.{forgotten_journal, after_forgetting}
 use Rattle.rec_tools.specs.declared.decision.Decision.{Decision}
 use Rattle.rec_tools.specs.declared.decision.Decision.TheVariants.{Stay, Put, Adopt}
 use Rattle.rec_edit.specs.declared.answer.Edited.{Edited}
-use Rattle.rec_edit.specs.Batch.{IsBatchOutcome}
-use Rattle.rec_edit.specs.Outcome.{IsSoundUnlessForced}
-use Rattle.rec_check.specs.DescribedTexts.{IsDescribedText}
 use Rattle.rec_tools.specs.declared.request.Request.{Request}
 use Rattle.rec_tools.specs.declared.request.Reply.{Reply}
-use Rattle.rec_tools.specs.declared.request.Reply.TheVariants.{Shown, Edited as EditedReply, Unchanged, Undone, Redone}
+use Rattle.rec_tools.specs.declared.request.Reply.TheVariants.{Edited as EditedReply, Unchanged, Undone, Redone}
 use Rattle.rec_tools.specs.declared.request.Reply.TheVariants.{Reverted, Forgotten, Adopted, Written}
 use Rattle.rec_tools.specs.Home.{Contents, Write, writes_by, written}
 use Rattle.rec_tools.specs.Reverting.{IsRevertOf}
 use Rattle.rec_tools.specs.Steps.{Then}
-use Rattle.rec_diff.specs.declared.style.DiffStyle.{DiffStyle}
-use Rattle.rec_diff.specs.Comparing.{step_between}
-use Rattle.rec_diff.specs.Diffs.{IsDiff}
-use Rattle.rec_tools.specs.Printouts.{Printout, IsShownText, printed_history, IsShownEdit, IsWholeLog}
-use Rattle.rec_tools.specs.Requests.{Edits, AskedChange, editing, moving, reverting, forgetting, adopting, writing}
-use Rattle.rec_tools.specs.Requests.{Asked, looking, listing, showing, listing_changes, changing, previewing, asked_of}
+use Rattle.rec_tools.specs.Printouts.{IsShownText, printed_history, IsShownEdit, IsWholeLog, history_reply}
+use Rattle.rec_tools.specs.Asked.{Printout, AskedChange, editing, moving, reverting, forgetting, adopting, writing}
+use Rattle.rec_tools.specs.Asked.{Asked, looking, listing, showing, listing_changes, changing, previewing, Reading}
+use Rattle.rec_tools.specs.Asked.{Telling}
+use Rattle.rec_tools.specs.Requests.{asked_of}
+use Rattle.rec_tools.specs.Writing.{edited_by_lines}
 
 -- ---- outcomes
 
@@ -81,14 +78,6 @@ reply_in decision = (outcome_of decision).reply
 
 -- ---- edits
 
--- what edits that are one make of a text, and the tool that is told with them; or the first refusal
-abbrev pub Makes : List ℕ → Edits → Result (Tool × Edited) Fault → Type 0
-Makes text edits = Then (IsBatchOutcome edits.force edits.tasks text) (λ made answer. answer ≡ Ok (edits.tool, made))
-
--- the same of edits that are told, unless they can't be
-abbrev pub IsMade : (Result Edits Fault → Type 0) → List ℕ → Result (Tool × Edited) Fault → Type 0
-IsMade IsEdit text = Then IsEdit (Makes text)
-
 -- the plan of an edit: its steps lead from the file to the text, and a stop leaves the history before or the one with
 -- the edit
 pub record IsPlanned (o : Opened) (c : Contents) (tool : Tool) (made : Edited) (plan : Plan) : Type 0 where
@@ -125,10 +114,10 @@ IsPutOn MakesOf reply_for c =
     Then (MakesOf o) (λ (tool, made).
     IsEditOutcome o c tool made (reply_for o tool made)))
 
--- the same of a file that reads
-abbrev pub IsPutBy : (Opened → Result (Tool × Edited) Fault → Type 0) → (Opened → Tool → Edited → Reply) → Contents
-    → Result Outcome Fault → Type 0
-IsPutBy MakesOf reply_for c = Then (IsDescribedText c.file) (λ _. IsPutOn MakesOf reply_for c)
+-- the same of a file that can be read
+abbrev pub IsPutBy : {X : Type 0} → Reading X → (Opened → Result (Tool × Edited) Fault → Type 0)
+    → (Opened → Tool → Edited → Reply) → Contents → Result Outcome Fault → Type 0
+IsPutBy Reads MakesOf reply_for c = Then (Reads c.file) (λ _. IsPutOn MakesOf reply_for c)
 
 -- ---- a move
 
@@ -177,28 +166,6 @@ IsForgetting n dropping o c (Ok outcome) = (o.drifted ≡ false)
     × IsLetGo (length o.past - n) (if dropping then lost_edits o else 0) o c outcome
 IsForgetting n dropping o c (Err fault) = (fault ≡ Drifted) × (o.drifted ≡ true)
 
--- ---- a whole text
-
--- the edit by a tool that makes one text the other, by lines
-abbrev pub edited_by_lines : Tool → List ℕ → List ℕ → Edited
-edited_by_lines tool old new = record { steps = step_between tool old new; text = new; changed = 0; chosen = None }
-
--- the text here is still the one that is given, if one is
-abbrev pub IsStill : Option (List ℕ) → List ℕ → Result (Unit {0}) Fault → Type 0
-IsStill over here (Ok x) = unwrap_or over here ≡ here
-IsStill over here (Err fault) = (fault ≡ OtherText) × (unwrap_or over here ≢ here)
-
--- a text reads, and keeps its rules unless that is forced
-abbrev pub MayStand : Bool → List ℕ → Result (Unit {0}) Fault → Type 0
-MayStand force text = Then (IsDescribedText text) (λ _. IsSoundUnlessForced force text)
-
--- a whole text as an edit of the one here, which needn't read
-abbrev pub IsWritten : Bool → Option (List ℕ) → List ℕ → List ℕ → Result (Tool × Edited) Fault → Type 0
-IsWritten force over text here =
-    Then (IsStill over here) (λ _.
-    Then (MayStand force text) (λ _ answer.
-    answer ≡ Ok (ByWrite, edited_by_lines ByWrite here text)))
-
 -- ---- what another program changed
 
 -- The history that counts, as it is with its end for the file, goes on with one edit from there to the file. The
@@ -233,15 +200,13 @@ IsPrinting IsText (Err fault) = IsText (Err fault)
 
 -- what a change comes to on the contents
 abbrev pub IsChangeOutcome : Contents → AskedChange → Result Outcome Fault → Type 0
-IsChangeOutcome c (editing IsEdit) =
-    IsPutBy (λ _. IsMade IsEdit c.file) (λ o. edit_reply o.next o.dropped) c
-IsChangeOutcome c (reverting number force) =
-    IsPutBy (λ o. IsRevertOf number force o c.file) (λ o. revert_reply number o.next) c
+IsChangeOutcome c (editing Reads Makes) = IsPutBy Reads (λ _. Makes c.file) (λ o. edit_reply o.next o.dropped) c
+IsChangeOutcome c (reverting Reads number Reverts) =
+    IsPutBy Reads (λ o. IsRevertOf number Reverts o c.file) (λ o. revert_reply number o.next) c
 IsChangeOutcome c (moving direction through) = Then (IsOpening c.file c.journal) (λ o. IsMove direction through o c)
 IsChangeOutcome c (forgetting n dropping) = Then (IsOpening c.file c.journal) (λ o. IsForgetting n dropping o c)
 IsChangeOutcome c (adopting old) = Then (IsOpening c.file c.journal) (λ o. IsAdoption old o c)
-IsChangeOutcome c (writing force over text) =
-    IsPutOn (λ _. IsWritten force over text c.file) (λ o. write_reply o.next o.dropped) c
+IsChangeOutcome c (writing Makes) = IsPutOn (λ _. Makes c.file) (λ o. write_reply o.next o.dropped) c
 
 -- ---- what would change
 
@@ -260,12 +225,12 @@ pub record LeadsAcross (direction : Direction) (e : Revision) (c d : Contents) :
   pub on_top : OnTop direction e here.past there.past
   pub leads : Leads direction e c.file d.file
 
--- what is printed of the way from the one contents to the others, in a style: nothing where the files are the same
-abbrev pub IsPreviewText : DiffStyle → Contents → Contents → List ℕ → Type 0
-IsPreviewText style c d printed =
+-- what is printed of the way from the one contents to the others: nothing where the files are the same
+abbrev pub IsPreviewText : Telling → Contents → Contents → List ℕ → Type 0
+IsPreviewText Tells c d printed =
     ((d.file ≡ c.file) × (printed ≡ []))
     ⊎ ((direction : Direction) × (e : Revision) × LeadsAcross direction e c d
-    × IsDiff direction style e.steps c.file d.file (Ok printed))
+    × Tells direction e.steps c.file d.file printed)
 
 -- the newest edit of these contents leads from a text to the file
 pub record LeadsFrom (from : List ℕ) (e : Revision) (d : Contents) : Type 0 where
@@ -276,14 +241,14 @@ pub record LeadsFrom (from : List ℕ) (e : Revision) (d : Contents) : Type 0 wh
   pub leads : Leads Forward e from d.file
 
 -- what is printed where the file was another program's: the edit that leads to it
-abbrev pub IsPreviewFrom : Option (List ℕ) → DiffStyle → Contents → Contents → List ℕ → Type 0
-IsPreviewFrom None style c d printed = IsPreviewText style c d printed
-IsPreviewFrom (Some from) style c d printed =
-    (e : Revision) × LeadsFrom from e d × IsDiff Forward style e.steps from d.file (Ok printed)
+abbrev pub IsPreviewFrom : Option (List ℕ) → Telling → Contents → Contents → List ℕ → Type 0
+IsPreviewFrom None Tells c d printed = IsPreviewText Tells c d printed
+IsPreviewFrom (Some from) Tells c d printed =
+    (e : Revision) × LeadsFrom from e d × Tells Forward e.steps from d.file printed
 
 -- what would be changed is printed, and not done
-pub record IsPreviewOf (style : DiffStyle) (c : Contents) (would outcome : Outcome) : Type 0 where
-  pub text : IsPreviewFrom would.from style c (written c would.writes) outcome.text
+pub record IsPreviewOf (Tells : Telling) (c : Contents) (would outcome : Outcome) : Type 0 where
+  pub text : IsPreviewFrom would.from Tells c (written c would.writes) outcome.text
   pub writes : outcome.writes ≡ []
   pub reply : outcome.reply ≡ would.reply
   pub from : outcome.from ≡ None
@@ -294,14 +259,14 @@ pub record IsPreviewOf (style : DiffStyle) (c : Contents) (would outcome : Outco
 abbrev pub IsRequestOutcome : Contents → Asked → Result Outcome Fault → Type 0
 IsRequestOutcome c (looking IsText) answer = IsPrinting (IsText c.file) answer
 IsRequestOutcome c listing answer =
-    Then (IsOpening c.file c.journal) (λ o given. given ≡ Ok (printing (printed_history o) Shown)) answer
-IsRequestOutcome c (showing number style) answer =
-    IsPrinting (IsShownText (IsShownEdit number style c.file c.journal)) answer
-IsRequestOutcome c (listing_changes style) answer = IsPrinting (IsShownText (IsWholeLog style c.file c.journal)) answer
+    Then (IsOpening c.file c.journal) (λ o given. given ≡ Ok (printing (printed_history o) (history_reply o))) answer
+IsRequestOutcome c (showing number Tells) answer =
+    IsPrinting (IsShownText (IsShownEdit number Tells c.file c.journal)) answer
+IsRequestOutcome c (listing_changes Tells) answer = IsPrinting (IsWholeLog Tells c.file c.journal) answer
 IsRequestOutcome c (changing change) answer = IsChangeOutcome c change answer
-IsRequestOutcome c (previewing style change) (Ok outcome) =
-    (would : Outcome) × IsChangeOutcome c change (Ok would) × IsPreviewOf style c would outcome
-IsRequestOutcome c (previewing style change) (Err fault) = IsChangeOutcome c change (Err fault)
+IsRequestOutcome c (previewing Tells change) (Ok outcome) =
+    (would : Outcome) × IsChangeOutcome c change (Ok would) × IsPreviewOf Tells c would outcome
+IsRequestOutcome c (previewing Tells change) (Err fault) = IsChangeOutcome c change (Err fault)
 
 -- an answer with the decision as an outcome
 abbrev pub outcome_in : Result Decision Fault → Result Outcome Fault

@@ -20,15 +20,14 @@ use Rattle.rec_select.specs.Printing.{IsPrinted}
 use Rattle.rec_select.specs.Report.{report}
 use Rattle.rec_select.specs.declared.records.Shape.{Shape}
 use Rattle.rec_select.specs.Selection.{Filter, IsSelection}
-use Rattle.rec_diff.specs.declared.style.DiffStyle.{DiffStyle}
-use Rattle.rec_diff.specs.Diffs.{IsDiff}
 use Rattle.rec_tools.specs.declared.request.Form.{Form}
 use Rattle.rec_tools.specs.declared.request.Pick.{Pick}
 use Rattle.rec_tools.specs.declared.request.Reply.{Reply}
-use Rattle.rec_tools.specs.declared.request.Reply.TheVariants.{Shown, Violated}
+use Rattle.rec_tools.specs.declared.request.Reply.TheVariants.{Shown, Violated, Drifted as HasDrifted}
 use Rattle.rec_tools.specs.Steps.{Then}
 use Rattle.rec_check.specs.DescribedTexts.{DescribedText, IsDescribedText}
 use Rattle.rec_tools.specs.Asking.{IsFilter, IsShape}
+use Rattle.rec_tools.specs.Asked.{Printout, Telling}
 
 -- ---- the texts
 
@@ -53,15 +52,14 @@ IsInfoOf file record_type form =
 
 -- ---- the texts with their replies
 
--- what a request prints, and its reply
-pub record Printout : Type 0 where
-  pub text : List ℕ
-  pub reply : Reply
+-- a text, with this reply, or why there is none
+abbrev pub IsTextWith : Reply → (Result (List ℕ) Fault → Type 0) → Result Printout Fault → Type 0
+IsTextWith reply IsText (Ok p) = IsText (Ok p.text) × (p.reply ≡ reply)
+IsTextWith reply IsText (Err fault) = IsText (Err fault)
 
 -- a text, which is shown, or why there is none
 abbrev pub IsShownText : (Result (List ℕ) Fault → Type 0) → Result Printout Fault → Type 0
-IsShownText IsText (Ok p) = IsText (Ok p.text) × (p.reply ≡ Shown)
-IsShownText IsText (Err fault) = IsText (Err fault)
+IsShownText = IsTextWith Shown
 
 -- the reply to a check that finds these
 abbrev pub verdict : List Violation → Reply
@@ -100,17 +98,28 @@ printed_history o =
     if o.drifted then codes "drifted\n"
     else history_text (map (λ e. (e.number, e.tool)) o.past) (map (λ e. (e.number, e.tool)) o.future)
 
--- the history of a file and its journal, or why there is none
-abbrev pub IsHistory : List ℕ → List ℕ → Result (List ℕ) Fault → Type 0
-IsHistory file journal = Then (IsOpening file journal) (λ o answer. answer ≡ Ok (printed_history o))
+-- the reply to a history that is printed: that the file has drifted, exactly where it has
+abbrev pub history_reply : Opened → Reply
+history_reply o = if o.drifted then HasDrifted else Shown
+
+-- the history of a file and its journal with its reply, or why there is none
+abbrev pub IsHistory : List ℕ → List ℕ → Result Printout Fault → Type 0
+IsHistory file journal =
+    Then (IsOpening file journal) (λ o answer.
+    answer ≡ Ok (record { text = printed_history o; reply = history_reply o }))
 
 -- ---- what edits made
 
--- what the edit of a number made of a file, or the newest that can be undone, as a diff in a style
-abbrev pub IsShownEdit : Option ℕ → DiffStyle → List ℕ → List ℕ → Result (List ℕ) Fault → Type 0
-IsShownEdit number style file journal =
+-- this is printed, and not refused
+abbrev pub IsTold : (List ℕ → Type 0) → Result (List ℕ) Fault → Type 0
+IsTold IsText (Ok printed) = IsText printed
+IsTold IsText (Err fault) = ⊥
+
+-- what the edit of a number made of a file, or the newest that can be undone
+abbrev pub IsShownEdit : Option ℕ → Telling → List ℕ → List ℕ → Result (List ℕ) Fault → Type 0
+IsShownEdit number Tells file journal =
     Then (IsOpening file journal) (λ o.
-    Then (IsEditTexts o file number) (λ made. IsDiff Forward style made.edit.steps made.before made.after))
+    Then (IsEditTexts o file number) (λ made. IsTold (Tells Forward made.edit.steps made.before made.after)))
 
 -- an edit of the history with its texts
 pub record Told : Type 0 where
@@ -131,24 +140,25 @@ told_of made = record {
   after = made.after;
 }
 
--- of each edit its line in the history, and after it what it made, in a style
-abbrev pub IsLog : DiffStyle → List Told → List ℕ → Type 0
-IsLog style [] printed = printed ≡ []
-IsLog style (e ∷ edits) printed = (diff rest : List ℕ)
-    × IsDiff Forward style e.steps e.before e.after (Ok diff) × IsLog style edits rest
+-- of each edit its line in the history, and after it what it made
+abbrev pub IsLog : Telling → List Told → List ℕ → Type 0
+IsLog Tells [] printed = printed ≡ []
+IsLog Tells (e ∷ edits) printed = (diff rest : List ℕ)
+    × Tells Forward e.steps e.before e.after diff × IsLog Tells edits rest
     × (printed ≡ step_line (word_of e.done) (e.number, e.tool) ++ (diff ++ rest))
 
 -- the same of the edits of a history; refused where the file doesn't lead to all their texts
-abbrev pub IsLogOf : DiffStyle → List ℕ → Opened → Result (List ℕ) Fault → Type 0
-IsLogOf style file o (Ok printed) =
+abbrev pub IsLogOf : Telling → List ℕ → Opened → Result (List ℕ) Fault → Type 0
+IsLogOf Tells file o (Ok printed) =
     ((o.drifted ≡ true) × (printed ≡ codes "drifted\n"))
-    ⊎ ((o.drifted ≡ false) × ((all : List WithTexts) × AreEditTexts o file all × IsLog style (map told_of all) printed))
-IsLogOf style file o (Err fault) =
+    ⊎ ((o.drifted ≡ false) × ((all : List WithTexts) × AreEditTexts o file all × IsLog Tells (map told_of all) printed))
+IsLogOf Tells file o (Err fault) =
     (fault ≡ Drifted) × (o.drifted ≡ false) × ((all : List WithTexts) → AreEditTexts o file all → ⊥)
 
--- the history with what its edits made, or why there is none
-abbrev pub IsWholeLog : DiffStyle → List ℕ → List ℕ → Result (List ℕ) Fault → Type 0
-IsWholeLog style file journal = Then (IsOpening file journal) (IsLogOf style file)
+-- the history with what its edits made, and with its reply, or why there is none
+abbrev pub IsWholeLog : Telling → List ℕ → List ℕ → Result Printout Fault → Type 0
+IsWholeLog Tells file journal =
+    Then (IsOpening file journal) (λ o. IsTextWith (history_reply o) (IsLogOf Tells file o))
 
 -- ---- what went out
 

@@ -1,71 +1,42 @@
--- What each request asks for: a look at the file, at its history or at what an edit made; a change, which is an edit, a
--- move through the history, a revert, that old edits are forgotten, that what another program changed becomes an edit,
--- or that the file gets a whole text; or what a change would make of the file. Each kind has one case in what follows,
--- and each request one row here.
-use Rattle.std.specs.Prelude.{◌≡◌, ◌↔◌, ℕ, Bool, List, [], ◌∷◌, Option, Result, Ok, Err}
+-- What each request asks for: one row for each, which says what is printed of a text, or what is made of it.
+use Rattle.std.specs.Prelude.{◌≡◌, ◌↔◌, ℕ, Bool, List, [], ◌∷◌, Result, Ok, Err}
 use Rattle.std.specs.List.{AllZip}
 use Rattle.rec_text.specs.declared.fault.Fault.{Fault}
-use Rattle.rec_journal.specs.declared.patch.Direction.{Direction}
 use Rattle.rec_journal.specs.declared.patch.Direction.TheVariants.{Forward, Backward}
 use Rattle.rec_journal.specs.declared.event.Tool.{Tool}
 use Rattle.rec_journal.specs.declared.event.Tool.TheVariants.{Batch as ByBatch}
+use Rattle.rec_edit.specs.declared.answer.Edited.{Edited}
+use Rattle.rec_edit.specs.Batch.{IsBatchOutcome}
 use Rattle.rec_edit.specs.Task.{Wanted, Task, insert, replace, delete, comment_out, set, auto_fill, fresh_by, tool_of}
 use Rattle.rec_diff.specs.declared.style.DiffStyle.{DiffStyle}
-use Rattle.rec_tools.specs.declared.home.Which.{Which}
-use Rattle.rec_tools.specs.declared.home.Which.TheVariants.{Base as TheFile, Journal as TheJournal}
 use Rattle.rec_tools.specs.declared.request.Pick.{Pick}
 use Rattle.rec_tools.specs.declared.request.EditRequest.{EditRequest}
-use Rattle.rec_tools.specs.declared.request.EditRequest.TheVariants.{Insert, Replace, Delete, CommentOut, Set, AutoFill}
+use Rattle.rec_tools.specs.declared.request.EditRequest.TheVariants.{Insert, Replace, Delete, CommentOut, Set}
+use Rattle.rec_tools.specs.declared.request.EditRequest.TheVariants.{AutoFill}
 use Rattle.rec_tools.specs.declared.request.Look.{Look}
 use Rattle.rec_tools.specs.declared.request.Look.TheVariants.{Show, Info, Check, History, Diff, Log}
 use Rattle.rec_tools.specs.declared.request.Change.{Change}
-use Rattle.rec_tools.specs.declared.request.Change.TheVariants.{Edit, Batch, Undo, Redo, Revert, Forget, Adopt}
-use Rattle.rec_tools.specs.declared.request.Change.TheVariants.{Write}
+use Rattle.rec_tools.specs.declared.request.Change.TheVariants.{Edit, Batch, Undo, Redo, Revert, Forget, Adopt, Write}
 use Rattle.rec_tools.specs.declared.request.Request.{Request}
-use Rattle.rec_tools.specs.declared.request.Request.TheVariants.{Look as Looks, Change as Changes, Preview as Previews}
+use Rattle.rec_tools.specs.declared.request.Request.TheVariants.{Look as Looks, Change as Changes}
+use Rattle.rec_tools.specs.declared.request.Request.TheVariants.{Preview as Previews}
 use Rattle.rec_check.specs.Violations.{AreViolationsOf}
 use Rattle.rec_tools.specs.Steps.{Then}
 use Rattle.rec_tools.specs.Asking.{IsFilter}
 use Rattle.rec_tools.specs.Batches.{AreEdits}
-use Rattle.rec_tools.specs.Printouts.{Printout, IsShownText, IsReportText, IsShow, IsInfoOf}
+use Rattle.rec_tools.specs.Printouts.{IsShownText, IsReportText, IsShow, IsInfoOf}
+use Rattle.rec_tools.specs.Asked.{Asked, AskedChange, Telling, adopting, changing, editing, forgetting, listing}
+use Rattle.rec_tools.specs.Asked.{listing_changes, looking, moving, previewing, reverting, showing, writing}
+use Rattle.rec_check.specs.DescribedTexts.{IsDescribedText}
+use Rattle.rec_diff.specs.Diffs.{IsDiff}
+use Rattle.rec_tools.specs.Reverting.{IsReverted}
+use Rattle.rec_tools.specs.Writing.{IsWritten}
 
 -- edits in turn that are one, with force or without, and the tool that is told with them
 pub record Edits : Type 0 where
   pub tool : Tool
   pub tasks : List Task
   pub force : Bool
-
--- what a change asks for
-pub data AskedChange : Type 1 where
-  -- these edits are made, unless they can't be told
-  editing : (Result Edits Fault → Type 0) → AskedChange
-  -- the nearest edit that way is taken back or made again; where a number is named, only if one that way has it
-  moving : Direction → Option ℕ → AskedChange
-  -- the edit of a number is taken back alone, with force or without
-  reverting : ℕ → Bool → AskedChange
-  -- all but the newest n of the edits that can be taken back are forgotten; and, or not, those that can be neither
-  -- taken back nor made again any more
-  forgetting : ℕ → Bool → AskedChange
-  -- what another program changed becomes an edit, on the end of the history, which is found from this text or from the
-  -- file's own
-  adopting : Option (List ℕ) → AskedChange
-  -- the file gets a text, with force or without; where another text is given too, only if it still has that one
-  writing : Bool → Option (List ℕ) → List ℕ → AskedChange
-
--- what a request asks for
-pub data Asked : Type 1 where
-  -- this is printed of the file
-  looking : (List ℕ → Result Printout Fault → Type 0) → Asked
-  -- the history is printed
-  listing : Asked
-  -- what an edit made is printed, that of this number or the newest that can be taken back, in this style
-  showing : Option ℕ → DiffStyle → Asked
-  -- the history is printed, and after each edit what it made, in this style
-  listing_changes : DiffStyle → Asked
-  -- this is changed, and nothing is printed
-  changing : AskedChange → Asked
-  -- it isn't changed; what it would make of the file is printed, in this style
-  previewing : DiffStyle → AskedChange → Asked
 
 -- ---- edits
 
@@ -105,6 +76,14 @@ IsBatch text force =
     Then (AreTasks edits) (λ tasks answer.
     answer ≡ Ok (record { tool = ByBatch; tasks = tasks; force = force })))
 
+-- what edits that are one make of a text, and the tool that is told with them; or the first refusal
+abbrev pub Makes : List ℕ → Edits → Result (Tool × Edited) Fault → Type 0
+Makes text edits = Then (IsBatchOutcome edits.force edits.tasks text) (λ made answer. answer ≡ Ok (edits.tool, made))
+
+-- the same of edits that are told, unless they can't be
+abbrev pub IsMade : (Result Edits Fault → Type 0) → List ℕ → Result (Tool × Edited) Fault → Type 0
+IsMade IsEdit text = Then IsEdit (Makes text)
+
 -- two edits have the same task, or are refused so
 abbrev pub HaveOneTask : EditRequest → EditRequest → Type 0
 HaveOneTask one other = (answer : Result Task Fault) → IsTaskOf one answer ↔ IsTaskOf other answer
@@ -122,36 +101,35 @@ HasOneAnswer text =
 
 -- ---- requests
 
+-- an edit is told as a diff, in a style
+abbrev pub as_diff : DiffStyle → Telling
+as_diff style direction steps here there printed = IsDiff direction style steps here there (Ok printed)
+
 -- what a look asks for
 abbrev pub look_of : Look → Asked
 look_of (Show pick form collapse) = looking (λ file. IsShownText (IsShow file pick form collapse))
 look_of (Info record_type form) = looking (λ file. IsShownText (IsInfoOf file record_type form))
 look_of Check = looking (λ file. IsReportText (AreViolationsOf file))
 look_of History = listing
-look_of (Diff number style) = showing number style
-look_of (Log style) = listing_changes style
+look_of (Diff number style) = showing number (as_diff style)
+look_of (Log style) = listing_changes (as_diff style)
 
 -- what a change asks for
 abbrev pub change_of : Change → AskedChange
-change_of (Edit edit force) = editing (IsOneEdit edit force)
-change_of (Batch text force) = editing (IsBatch text force)
+change_of (Edit edit force) = editing IsDescribedText (IsMade (IsOneEdit edit force))
+change_of (Batch text force) = editing IsDescribedText (IsMade (IsBatch text force))
 change_of (Undo through) = moving Backward through
 change_of (Redo through) = moving Forward through
-change_of (Revert number force) = reverting number force
+change_of (Revert number force) = reverting IsDescribedText number (IsReverted force)
 change_of (Forget newest dropped) = forgetting newest dropped
 change_of (Adopt old) = adopting old
-change_of (Write text over force) = writing force over text
+change_of (Write text over force) = writing (IsWritten force over text)
 
 -- what a request asks for
 abbrev pub asked_of : Request → Asked
 asked_of (Looks look) = look_of look
 asked_of (Changes change) = changing (change_of change)
-asked_of (Previews change style) = previewing style (change_of change)
-
--- the contents that are read for it, in this order
-abbrev pub reads_of : Asked → List Which
-reads_of (looking IsText) = TheFile ∷ []
-reads_of _ = TheFile ∷ TheJournal ∷ []
+asked_of (Previews change style) = previewing (as_diff style) (change_of change)
 
 -- a request that changes something, of which nothing is printed; every other one prints, and nothing is written for it
 abbrev pub IsChange : Request → Type 0

@@ -14,14 +14,7 @@ use Rattle.rec_diff.specs.Reverts.{Reverts}
 use Rattle.rec_check.specs.DescribedTexts.{DescribedText, IsDescribedText}
 use Rattle.rec_edit.specs.declared.answer.Edited.{Edited}
 use Rattle.rec_edit.specs.Outcome.{IsSoundUnlessForced}
-
--- an edit that stands: its tool and steps, the texts before and after it, and the steps of all that were made later
-pub record Standing : Type 0 where
-  pub tool : Tool
-  pub steps : List EditStep
-  pub before : List ℕ
-  pub after : List ℕ
-  pub later : List EditStep
+use Rattle.rec_tools.specs.Asked.{Reversal, Standing}
 
 abbrev pub standing_of : WithLater → Standing
 standing_of found = record {
@@ -85,6 +78,6 @@ IsReverted force here e =
     answer ≡ Ok told))
 
 -- the same of the edit of this number in a history of the file
-abbrev pub IsRevertOf : ℕ → Bool → Opened → List ℕ → Result (Tool × Edited) Fault → Type 0
-IsRevertOf number force o file =
-    Then (IsStandingEdit o file number) (λ found. IsReverted force file (standing_of found))
+abbrev pub IsRevertOf : ℕ → Reversal → Opened → List ℕ → Result (Tool × Edited) Fault → Type 0
+IsRevertOf number Reverts o file =
+    Then (IsStandingEdit o file number) (λ found. Reverts file (standing_of found))

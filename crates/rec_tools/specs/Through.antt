@@ -16,10 +16,13 @@ use Rattle.rec_tools.specs.declared.request.Reply.TheVariants.{Undone, Redone}
 use Rattle.rec_tools.specs.declared.through.Through.{Through}
 use Rattle.rec_tools.specs.Home.{Contents, written, Call, Went}
 use Rattle.rec_tools.specs.Printouts.{Printed, IsBoth, IsSilence}
-use Rattle.rec_tools.specs.Requests.{AskedChange, moving, previewing, change_of}
+use Rattle.rec_tools.specs.Requests.{change_of, as_diff}
+use Rattle.rec_tools.specs.Asked.{AskedChange, moving, previewing}
 use Rattle.rec_tools.specs.Outcomes.{Outcome, IsChangeOutcome, reply_of}
 use Rattle.rec_tools.specs.Attempts.{Answer, AreRead, Does, gots}
-use Rattle.rec_tools.specs.Machine.{Entry, State, IsChangeStep, IsMachineStep, entries_on, Stands}
+use Rattle.rec_tools.specs.Machine.{IsChangeStep, IsMachineStep}
+use Rattle.rec_tools.specs.Stands.{Stands}
+use Rattle.rec_tools.specs.States.{Entry, State, entries_on}
 
 -- a move that way, where the edit of this number lies that way
 abbrev pub move_through : Direction → ℕ → Change
@@ -135,7 +138,7 @@ WouldLeave c change reply d = (would : Outcome) × IsChangeOutcome c change (Ok 
 abbrev pub PreviewsAgain : DiffStyle → AskedChange → Contents → List Answer → Printed → Contents → Type 0
 PreviewsAgain style change c [] p last = IsSilence p × (last ≡ c)
 PreviewsAgain style change c (answer ∷ answers) p last = (d : Contents) × (first rest : Printed) × IsBoth p first rest
-    × Does c (previewing style change) answer (gots c (TheFile ∷ TheJournal ∷ [])) first
+    × Does c (previewing (as_diff style) change) answer (gots c (TheFile ∷ TheJournal ∷ [])) first
     × IfOk answer (λ reply. WouldLeave c change reply d) × PreviewsAgain style change d answers rest last
 
 -- so it is on both contents, as they were read; or they couldn't be read, and that is the answer
@@ -156,5 +159,5 @@ PreviewsThrough goes old new style direction number answers p = (read : Result (
 abbrev pub PreviewSteps : DiffStyle → State → AskedChange → List Answer → List ℕ → State → Type 0
 PreviewSteps style s change [] printed t = (printed ≡ []) × (t ≡ s)
 PreviewSteps style s change (answer ∷ answers) printed t = (mid : State) × (first rest : List ℕ)
-    × (printed ≡ first ++ rest) × IsMachineStep s (previewing style change) answer first s
+    × (printed ≡ first ++ rest) × IsMachineStep s (previewing (as_diff style) change) answer first s
     × IsChangeStep s change answer mid × PreviewSteps style mid change answers rest t

@@ -4,7 +4,7 @@ ghost use Rattle.rec_text.specs.Faults.{UnlessMemory};
 ghost use Rattle.rec_journal.specs.History.{IsOpening};
 ghost use Rattle.rec_journal.specs.Ending.{digest_of, EndsWith};
 ghost use Rattle.rec_tools.specs.Steps.{IsRefusal};
-ghost use Rattle.rec_tools.specs.Requests.{adopting};
+ghost use Rattle.rec_tools.specs.Asked.{adopting};
 ghost use Rattle.rec_tools.specs.Outcomes.{Decides};
 ghost use Rattle.rec_tools.specs.proving.Courses.{HasCourse};
 ghost use Rattle.rec_tools.specs.proving.Adopting.{AdoptsTo, AdoptsFrom};

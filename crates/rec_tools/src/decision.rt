@@ -5,8 +5,12 @@ ghost use Rattle.rec_text.specs.Faults.{UnlessMemory};
 ghost use Rattle.rec_journal.specs.History.{IsOpening, lost_edits};
 ghost use Rattle.rec_journal.specs.Plans.{nothing_there};
 ghost use Rattle.rec_tools.specs.Steps.{IsRefusal};
-ghost use Rattle.rec_tools.specs.Requests.{editing, moving, reverting, forgetting, writing, change_of};
-ghost use Rattle.rec_tools.specs.Outcomes.{IsMade, IsEditOutcome, Decides, outcome_in, reply_of};
+ghost use Rattle.rec_check.specs.DescribedTexts.{IsDescribedText};
+ghost use Rattle.rec_tools.specs.Asked.{editing, moving, reverting, forgetting, writing};
+ghost use Rattle.rec_tools.specs.Reverting.{IsReverted};
+ghost use Rattle.rec_tools.specs.Writing.{IsWritten};
+ghost use Rattle.rec_tools.specs.Requests.{IsMade, change_of};
+ghost use Rattle.rec_tools.specs.Outcomes.{IsEditOutcome, Decides, outcome_in, reply_of};
 ghost use Rattle.rec_tools.specs.declared.decision.Decision.TheVariants.{Put};
 ghost use Rattle.rec_tools.specs.proving.Courses.{HasCourse};
 ghost use Rattle.rec_tools.specs.proving.Editing.{AreEditsFrom, HasSteps};
@@ -154,7 +158,8 @@ fn decide_on(
     source: Source<'_>,
     force: bool,
 ) -> Result<Decision, Refusal>
-    ensures found { UnlessMemory result (Decides file.now journal.now (editing (AreEditsFrom source.entry force))) }
+    ensures found { UnlessMemory result
+        (Decides file.now journal.now (editing IsDescribedText (IsMade (AreEditsFrom source.entry force)))) }
     ensures course { IfOk result (HasCourse file.now journal.now) }
     ensures refusals { IfErr result IsRefusal }
 {
@@ -177,7 +182,8 @@ fn decide_edit(
     source: Source<'_>,
     force: bool,
 ) -> Result<Decision, Refusal>
-    ensures found { UnlessMemory result (Decides file.now journal.now (editing (AreEditsFrom source.entry force))) }
+    ensures found { UnlessMemory result
+        (Decides file.now journal.now (editing IsDescribedText (IsMade (AreEditsFrom source.entry force)))) }
     ensures course { IfOk result (HasCourse file.now journal.now) }
     ensures refusals { IfErr result IsRefusal }
 {
@@ -193,7 +199,8 @@ fn decide_revert_on(
     number: usize,
     force: bool,
 ) -> Result<Decision, Refusal>
-    ensures found { UnlessMemory result (Decides file.now journal.now (reverting number force)) }
+    ensures found { UnlessMemory result
+        (Decides file.now journal.now (reverting IsDescribedText number (IsReverted force))) }
     ensures course { IfOk result (HasCourse file.now journal.now) }
     ensures refusals { IfErr result IsRefusal }
 {
@@ -216,7 +223,8 @@ fn decide_revert(
     number: usize,
     force: bool,
 ) -> Result<Decision, Refusal>
-    ensures found { UnlessMemory result (Decides file.now journal.now (reverting number force)) }
+    ensures found { UnlessMemory result
+        (Decides file.now journal.now (reverting IsDescribedText number (IsReverted force))) }
     ensures course { IfOk result (HasCourse file.now journal.now) }
     ensures refusals { IfErr result IsRefusal }
 {
@@ -233,7 +241,7 @@ fn decide_write_on(
     over: &Option<Bytes>,
     force: bool,
 ) -> Result<Decision, Refusal>
-    ensures found { UnlessMemory result (Decides file.now journal.now (writing force over.now text.now)) }
+    ensures found { UnlessMemory result (Decides file.now journal.now (writing (IsWritten force over.now text.now))) }
     ensures course { IfOk result (HasCourse file.now journal.now) }
     ensures refusals { IfErr result IsRefusal }
 {
@@ -254,7 +262,7 @@ fn decide_write(
     over: &Option<Bytes>,
     force: bool,
 ) -> Result<Decision, Refusal>
-    ensures found { UnlessMemory result (Decides file.now journal.now (writing force over.now text.now)) }
+    ensures found { UnlessMemory result (Decides file.now journal.now (writing (IsWritten force over.now text.now))) }
     ensures course { IfOk result (HasCourse file.now journal.now) }
     ensures refusals { IfErr result IsRefusal }
 {

@@ -2,10 +2,12 @@
 ghost use Rattle.std.specs.Prelude.{◌≡◌, List, [], ◌∷◌, ◌++◌, Some, IfOk, IfSome};
 ghost use Rattle.rec_tools.specs.Home.{written};
 ghost use Rattle.rec_tools.specs.Printouts.{Printed, WentOut};
-ghost use Rattle.rec_tools.specs.Requests.{moving, change_of};
+ghost use Rattle.rec_tools.specs.Requests.{change_of};
+ghost use Rattle.rec_tools.specs.Asked.{moving};
 ghost use Rattle.rec_tools.specs.Outcomes.{outcome_of, reply_in};
 ghost use Rattle.rec_tools.specs.Attempts.{Answer};
-ghost use Rattle.rec_tools.specs.Machine.{State, Stands};
+ghost use Rattle.rec_tools.specs.Stands.{Stands};
+ghost use Rattle.rec_tools.specs.States.{State};
 ghost use Rattle.rec_tools.specs.Through.{move_through, answers_of, EndsThrough, IsThrough, PreviewsThrough, PreviewSteps};
 ghost use Rattle.rec_tools.specs.proving.Courses.{contents};
 ghost use Rattle.rec_tools.specs.proving.Moving.{turned, GoesDry, IsDryMove};

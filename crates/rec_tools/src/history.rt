@@ -1,10 +1,10 @@
 //! Prints the history of a file.
-ghost use Rattle.std.specs.Prelude.{codes, flat_map, Ok, IfErr, IsOkUnless, if◌then◌else◌};
+ghost use Rattle.std.specs.Prelude.{◌≡◌, codes, flat_map, Ok, IfErr, IsOkUnless, if◌then◌else◌};
 ghost use Rattle.rec_text.specs.Faults.{UnlessMemory};
 ghost use Rattle.rec_select.specs.Taken.{Prints, PrintsAndCounts};
 ghost use Rattle.rec_journal.specs.History.{IsOpening};
 ghost use Rattle.rec_tools.specs.Steps.{IsRefusal};
-ghost use Rattle.rec_tools.specs.Printouts.{IsHistory, IsShownText, PutsPrintout, printed_history};
+ghost use Rattle.rec_tools.specs.Printouts.{IsHistory, PutsPrintout, history_reply, printed_history};
 ghost use Rattle.rec_tools.specs.proving.Listed.{line_of};
 
 use crate::request::Reply;
@@ -53,6 +53,17 @@ fn write_history<S: Sink>(history: &History, out: &mut S) -> Result<(), Fault>
     write_steps(history.steps(), out)
 }
 
+/// The reply to a history that is printed.
+fn reply_to(history: &History) -> Reply
+    ensures { result ≡ history_reply history.now }
+{
+    if history.is_drifted() {
+        Reply::Drifted
+    } else {
+        Reply::Shown
+    }
+}
+
 /// Prints the history that a file and its journal stand for.
 pub fn print_history<S: Sink>(
     alloc: Global,
@@ -61,10 +72,10 @@ pub fn print_history<S: Sink>(
     out: &mut S,
 ) -> Result<Reply, Refusal>
     ensures written { PrintsAndCounts S.contents S.failure_count out.old out.new
-        (PutsPrintout (IsShownText (IsHistory file.now journal.now))) result }
+        (PutsPrintout (IsHistory file.now journal.now)) result }
     ensures refusals { IfErr result IsRefusal }
 {
     let history = history_of(alloc, file, journal)?;
     write_history(&history, out)?;
-    Ok(Reply::Shown)
+    Ok(reply_to(&history))
 }

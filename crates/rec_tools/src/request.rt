@@ -200,6 +200,8 @@ pub enum Request {
 pub enum Reply {
     /// What was asked for was printed.
     Shown,
+    /// It was printed that the file was changed outside.
+    Drifted,
     /// The number of violations that were reported.
     Violated(usize),
     /// The text was changed.

@@ -6,7 +6,7 @@ ghost use Rattle.rec_journal.specs.EditTexts.{WithLater};
 ghost use Rattle.rec_journal.specs.History.{IsOpening};
 ghost use Rattle.rec_journal.specs.Revisions.{LeadsBy, joined_steps};
 ghost use Rattle.rec_tools.specs.Steps.{IsRefusal};
-ghost use Rattle.rec_tools.specs.Reverting.{AreHunksBack, IsLeft, IsKept, IsRevertOf, last_tool, standing_of, unread};
+ghost use Rattle.rec_tools.specs.Reverting.{AreHunksBack, IsLeft, IsKept, IsReverted, IsRevertOf, last_tool, standing_of, unread};
 ghost use Rattle.rec_tools.specs.proving.Editing.{HasSteps};
 ghost use Rattle.rec_tools.specs.proving.Reverting.{StandsBefore};
 
@@ -145,7 +145,7 @@ pub fn reverted(
     force: bool,
 ) -> Result<(Tool, Edited), Refusal>
     requires opened { IsOpening file.now journal.now (Ok history.now) }
-    ensures found { UnlessMemory result (IsRevertOf number force history.now file.now) }
+    ensures found { UnlessMemory result (IsRevertOf number (IsReverted force) history.now file.now) }
     ensures steps { IfOk result (HasSteps file.now) }
     ensures refusals { IfErr result IsRefusal }
 {

@@ -7,10 +7,12 @@ ghost use Rattle.rec_journal.specs.History.{IsRegular};
 ghost use Rattle.rec_tools.specs.Home.{Call, HasFailed, left_by_all, Rose, WentOn};
 ghost use Rattle.rec_tools.specs.Steps.{IsRefusal};
 ghost use Rattle.rec_tools.specs.Printouts.{Printed, WentOut};
-ghost use Rattle.rec_tools.specs.Requests.{listing, showing, listing_changes, changing, previewing, look_of, change_of, asked_of, IsChange};
+ghost use Rattle.rec_tools.specs.Requests.{as_diff, look_of, change_of, asked_of, IsChange};
+ghost use Rattle.rec_tools.specs.Asked.{listing, showing, listing_changes, changing, previewing};
 ghost use Rattle.rec_tools.specs.Outcomes.{outcome_of};
 ghost use Rattle.rec_tools.specs.Attempts.{AreRead, IsAnswered, IsCutShort, Attempts, AttemptsAll};
-ghost use Rattle.rec_tools.specs.Machine.{State, Stands};
+ghost use Rattle.rec_tools.specs.Stands.{Stands};
+ghost use Rattle.rec_tools.specs.States.{State};
 ghost use Rattle.rec_tools.specs.Guarantee.{RunsAsMachine};
 ghost use Rattle.rec_tools.specs.proving.Silently.{ByCalls, DoesSilently};
 
@@ -106,7 +108,7 @@ fn tell_edit<H: Home, S: Sink>(
     style: &DiffStyle,
 ) -> Result<Reply, Refusal>
     ensures attempts { (calls : List Call) × (p : Printed) × WentOut S.contents S.failure_count out.old out.new p
-        × Attempts H.goes home.old home.new (showing number style.now) result calls p }
+        × Attempts H.goes home.old home.new (showing number (as_diff style.now)) result calls p }
     ensures counted { S.failure_count out.old ≤ S.failure_count out.new }
     ensures refusals { IfErr result IsRefusal }
 {
@@ -129,7 +131,7 @@ fn tell_log<H: Home, S: Sink>(
     style: &DiffStyle,
 ) -> Result<Reply, Refusal>
     ensures attempts { (calls : List Call) × (p : Printed) × WentOut S.contents S.failure_count out.old out.new p
-        × Attempts H.goes home.old home.new (listing_changes style.now) result calls p }
+        × Attempts H.goes home.old home.new (listing_changes (as_diff style.now)) result calls p }
     ensures counted { S.failure_count out.old ≤ S.failure_count out.new }
     ensures refusals { IfErr result IsRefusal }
 {
@@ -146,7 +148,7 @@ fn tell_preview<H: Home, S: Sink>(
     style: &DiffStyle,
 ) -> Result<Response, Refusal>
     ensures attempts { (calls : List Call) × (p : Printed) × WentOut S.contents S.failure_count out.old out.new p
-        × Attempts H.goes home.old home.new (previewing style.now (change_of change.now)) result calls p }
+        × Attempts H.goes home.old home.new (previewing (as_diff style.now) (change_of change.now)) result calls p }
     ensures counted { S.failure_count out.old ≤ S.failure_count out.new }
     ensures refusals { IfErr result IsRefusal }
 {
@@ -280,14 +282,14 @@ pub fn run_all<H: Home, S: Sink>(
     ensures guarantee { IfOk result (λ answers. IfSome (H.contents home.old) (λ c. (s : State) → Stands c s →
         (calls : List Call) × (p : Printed) × WentOut S.contents S.failure_count out.old out.new p
         × WentOn H.goes H.contents c home.old calls home.new
-        × (¬ HasFailed calls → (t : State) × RunsAsMachine c s requests.now answers.items calls p t))) }
+        × (¬ HasFailed calls → (t : State) × RunsAsMachine asked_of c s requests.now answers.items calls p t))) }
 
     // The same whatever calls fail, where the journal is regular, as it then stays: a run with failures.
     ensures failing_stores { IfOk result (λ answers. IfSome (H.contents home.old) (λ c. (s : State)
         → Stands c s → IsRegular c.journal →
         (calls : List Call) × (p : Printed) × (t : State) × WentOut S.contents S.failure_count out.old out.new p
         × WentOn H.goes H.contents c home.old calls home.new
-        × RunsAsMachine c s requests.now answers.items calls p t × IsRegular (left_by_all c calls).journal)) }
+        × RunsAsMachine asked_of c s requests.now answers.items calls p t × IsRegular (left_by_all c calls).journal)) }
 
     ensures unreserved { IfErr result (λ fault.
         (fault ≡ Fault.OutOfMemory) × (home.new ≡ home.old) × (out.new ≡ out.old)) }

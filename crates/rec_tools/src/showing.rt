@@ -5,7 +5,9 @@ ghost use Rattle.rec_journal.specs.EditTexts.{WithTexts, GoesOver};
 ghost use Rattle.rec_journal.specs.History.{IsOpening};
 ghost use Rattle.rec_select.specs.Taken.{PrintsAndCounts};
 ghost use Rattle.rec_tools.specs.Steps.{IsRefusal};
-ghost use Rattle.rec_tools.specs.Printouts.{told_of, IsLog, IsShownEdit, IsLogOf, IsWholeLog, IsShownText, PutsPrintout};
+ghost use Rattle.rec_tools.specs.Printouts.{told_of, IsLog, IsShownEdit, IsLogOf, IsWholeLog, IsShownText, IsTextWith};
+ghost use Rattle.rec_tools.specs.Printouts.{PutsPrintout};
+ghost use Rattle.rec_tools.specs.Requests.{as_diff};
 ghost use Rattle.rec_tools.specs.proving.Logs.{HasSteps, HaveSteps, IsEditDiff, IsLogged, PrintsThe};
 
 use crate::history::{history_of, write_step};
@@ -43,7 +45,7 @@ pub fn print_edit<S: Sink>(
     out: &mut S,
 ) -> Result<Reply, Refusal>
     ensures written { PrintsAndCounts S.contents S.failure_count out.old out.new
-        (PutsPrintout (IsShownText (IsShownEdit number style.now file.now journal.now))) result }
+        (PutsPrintout (IsShownText (IsShownEdit number (as_diff style.now) file.now journal.now))) result }
     ensures refusals { IfErr result IsRefusal }
 {
     let history = history_of(alloc, file, journal)?;
@@ -79,7 +81,7 @@ fn write_lines<S: Sink>(
 ) -> Result<(), Fault>
     requires { HaveSteps walk }
     ensures printed { (all : List WithTexts) → GoesOver walk.entry all
-        → PrintsThe S.contents S.failure_count out.old out.new (IsLog style.now (map told_of all)) result }
+        → PrintsThe S.contents S.failure_count out.old out.new (IsLog (as_diff style.now) (map told_of all)) result }
     ensures refusals { IsOkUnlessEither result Fault.OutOfMemory Fault.StoreFailed }
 {
     let mut walk = walk;
@@ -93,11 +95,11 @@ fn write_lines<S: Sink>(
 /// Prints that the file was changed outside.
 fn print_drifted<S: Sink>(out: &mut S) -> Result<Reply, Refusal>
     ensures printed { PrintsAndCounts S.contents S.failure_count out.old out.new
-        (PutsPrintout (IsShownText (λ answer. answer ≡ Ok (codes "drifted\n")))) result }
+        (PutsPrintout (IsTextWith Reply.Drifted (λ answer. answer ≡ Ok (codes "drifted\n")))) result }
     ensures refusals { IsOkUnless result Fault.StoreFailed }
 {
     put_all(out, b"drifted\n")?;
-    Ok(Reply::Shown)
+    Ok(Reply::Drifted)
 }
 
 /// Prints the edits of a history, and after each of them what it made.
@@ -112,7 +114,7 @@ fn print_edits<S: Sink>(
     requires opened { IsOpening file.now journal.now (Ok history.now) }
     requires settled { history.now.drifted ≡ false }
     ensures written { PrintsAndCounts S.contents S.failure_count out.old out.new
-        (PutsPrintout (IsShownText (IsLogOf style.now file.now history.now))) result }
+        (PutsPrintout (IsShownText (IsLogOf (as_diff style.now) file.now history.now))) result }
     ensures refusals { IfErr result IsRefusal }
 {
     let walk = match EditWalk::begin(alloc, history, file, journal) {
@@ -132,7 +134,7 @@ pub fn print_log<S: Sink>(
     out: &mut S,
 ) -> Result<Reply, Refusal>
     ensures written { PrintsAndCounts S.contents S.failure_count out.old out.new
-        (PutsPrintout (IsShownText (IsWholeLog style.now file.now journal.now))) result }
+        (PutsPrintout (IsWholeLog (as_diff style.now) file.now journal.now)) result }
     ensures refusals { IfErr result IsRefusal }
 {
     let history = history_of(alloc, file, journal)?;

@@ -3,9 +3,11 @@ ghost use Rattle.std.specs.Prelude.{◌≡◌, ◌<◌, ◌^◌, List, Some, IfO
 ghost use Rattle.rec_journal.specs.History.{IsRegular};
 ghost use Rattle.rec_tools.specs.Home.{Call, HasFailed, left_by_all, WentOn};
 ghost use Rattle.rec_tools.specs.Printouts.{Printed, IsSilence};
-ghost use Rattle.rec_tools.specs.Requests.{changing, change_of};
+ghost use Rattle.rec_tools.specs.Requests.{asked_of, change_of};
+ghost use Rattle.rec_tools.specs.Asked.{changing};
 ghost use Rattle.rec_tools.specs.Attempts.{Answer, AttemptsAll};
-ghost use Rattle.rec_tools.specs.Machine.{State, Stands};
+ghost use Rattle.rec_tools.specs.Stands.{Stands};
+ghost use Rattle.rec_tools.specs.States.{State};
 ghost use Rattle.rec_tools.specs.Guarantee.{RunsAsMachine};
 ghost use Rattle.rec_tools.specs.Through.{move_through, moves_through, moved_by, comes_before, leads_on, EndsThrough, IsThrough};
 ghost use Rattle.rec_tools.specs.proving.Moving.{GoesThrough};
@@ -136,14 +138,14 @@ pub fn run_through<H: Home>(
         × (calls : List Call) × (p : Printed) × IsSilence p
         × WentOn H.goes H.contents c home.old calls home.new
         × (¬ HasFailed calls → (t : State)
-        × RunsAsMachine c s (moves_through direction number answers) answers calls p t)) }
+        × RunsAsMachine asked_of c s (moves_through direction number answers) answers calls p t)) }
 
     // And whatever calls fail, where the journal is regular, as it then stays.
     ensures failing_stores { IfSome (H.contents home.old) (λ c. (s : State) → Stands c s → IsRegular c.journal →
         (answers : List Answer) × EndsThrough direction number answers result
         × (calls : List Call) × (p : Printed) × (t : State) × IsSilence p
         × WentOn H.goes H.contents c home.old calls home.new
-        × RunsAsMachine c s (moves_through direction number answers) answers calls p t
+        × RunsAsMachine asked_of c s (moves_through direction number answers) answers calls p t
         × IsRegular (left_by_all c calls).journal) }
 
     // Where the last answer is no refusal, the contents stand for the state to which the edits as far as that one lead, if it

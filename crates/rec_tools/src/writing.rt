@@ -2,7 +2,7 @@
 ghost use Rattle.std.specs.Prelude.{Ok, IfOk, IfErr};
 ghost use Rattle.rec_text.specs.Faults.{UnlessMemory};
 ghost use Rattle.rec_tools.specs.Steps.{IsRefusal};
-ghost use Rattle.rec_tools.specs.Outcomes.{IsStill, MayStand, IsWritten};
+ghost use Rattle.rec_tools.specs.Writing.{IsStill, MayStand, IsWritten};
 ghost use Rattle.rec_tools.specs.proving.Editing.{HasSteps};
 
 use rec_check::{Before, RecFile};

@@ -7,7 +7,7 @@ use Rattle.rec_text.specs.declared.fault.Fault.{Fault}
 use Rattle.rec_text.specs.declared.fault.Fault.TheVariants.{StoreFailed}
 use Rattle.rec_disk.specs.Disk.{Story}
 use Rattle.rec_tools.specs.declared.request.Reply.{Reply}
-use Rattle.rec_tools.specs.Requests.{Asked}
+use Rattle.rec_tools.specs.Asked.{Asked}
 use Rattle.rec_tools.specs.Attempts.{Answer}
 use Rattle.rec_files.specs.declared.output.StandardOutput.{StandardOutput}
 use Rattle.rec_files.specs.OnDisk.{Places, SecureRequest, LastingRequest, TouchesOwn, RecoversRequest, IsRequestAt}

@@ -19,12 +19,14 @@ use Rattle.rec_diff.specs.declared.style.DiffStyle.{DiffStyle}
 use Rattle.rec_tools.specs.declared.request.Change.{Change}
 use Rattle.rec_tools.specs.declared.request.Change.TheVariants.{Batch, Adopt, Write}
 use Rattle.rec_tools.specs.declared.request.Request.{Request}
-use Rattle.rec_tools.specs.declared.request.Request.TheVariants.{Look as Looks, Change as Changes, Preview as Previews}
+use Rattle.rec_tools.specs.declared.request.Request.TheVariants.{Look as Looks, Change as Changes}
+use Rattle.rec_tools.specs.declared.request.Request.TheVariants.{Preview as Previews}
 use Rattle.rec_tools.specs.declared.request.Reply.{Reply}
 use Rattle.rec_tools.specs.declared.through.Through.{Through}
 use Rattle.rec_tools.specs.Home.{Call}
 use Rattle.rec_tools.specs.Printouts.{Printed, IsSilence}
-use Rattle.rec_tools.specs.Requests.{changing, change_of, asked_of, IsChange}
+use Rattle.rec_tools.specs.Requests.{change_of, asked_of, IsChange}
+use Rattle.rec_tools.specs.Asked.{changing}
 use Rattle.rec_tools.specs.Attempts.{Answer, Attempts, AttemptsAll}
 use Rattle.rec_tools.specs.Through.{move_through, moves_through, EndsThrough, PreviewsThrough}
 use Rattle.rec_files.specs.declared.access.Access.TheVariants.{Look}
@@ -41,7 +43,7 @@ use Rattle.rec_command.specs.declared.args.ChangeOrder.TheVariants.{Whole, Batch
 use Rattle.rec_command.specs.declared.args.ChangeOrder.TheVariants.{Through as ThroughOrder}
 use Rattle.rec_command.specs.declared.args.CommandLine.{CommandLine}
 use Rattle.rec_command.specs.declared.args.JournalPath.{JournalPath}
-use Rattle.rec_command.specs.declared.args.JournalPath.TheVariants.{Unused, Default, Given}
+use Rattle.rec_command.specs.declared.args.JournalPath.TheVariants.{Default, Given}
 use Rattle.rec_command.specs.declared.args.refusal.Refusal.{Refusal}
 use Rattle.rec_command.specs.Status.{line_of, status_of}
 use Rattle.rec_command.specs.Refusals.{AsksForHelp, IsParsed, refusal_fault}

@@ -54,7 +54,7 @@ fn ranked(alloc: Global, marks: &[Place]) -> Result<Ranking, AllocError>
 }
 
 /// The longest list of these landmarks that has one order in both texts, where there is a choice the earlier ones.
-pub(crate) fn longest(alloc: Global, marks: &[Place]) -> Result<Vec<Place>, AllocError>
+pub fn longest(alloc: Global, marks: &[Place]) -> Result<Vec<Place>, AllocError>
     ensures { IfOk result (λ chosen. chosen.items ≡ longest_from 0 marks.now) }
 {
     let ranking = ranked(alloc, marks)?;

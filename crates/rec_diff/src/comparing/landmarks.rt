@@ -9,9 +9,9 @@ use std::alloc::{AllocError, Global};
 
 /// A line of a text, and where it begins.
 #[derive(Clone, Copy)]
-struct Line<'t> {
-    text: &'t [u8],
-    at: usize,
+pub struct Line<'t> {
+    pub text: &'t [u8],
+    pub at: usize,
 }
 
 fn lines_of<'t>(alloc: Global, text: &'t [u8]) -> Result<Vec<Line<'t>>, AllocError>
@@ -61,7 +61,7 @@ fn alone(lines: &[Line], text: &[u8]) -> Option<usize>
 }
 
 /// The place of a line that stands once among these.
-fn only_place(lines: &[Line], text: &[u8]) -> Option<usize>
+pub fn only_place(lines: &[Line], text: &[u8]) -> Option<usize>
     requires { AreSorted lines.now }
     ensures { result ≡ only (places_in text.now lines.now) }
 {

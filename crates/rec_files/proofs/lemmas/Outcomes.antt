@@ -1,6 +1,6 @@
 -- What a request puts can be told to be left over, where a stop comes within the put.
-use Rattle.std.proofs.Common.{◌≡◌, ◌⊎◌, inl, inr, refl, sym, ap, subst, ◌∙◌, arith, ℕ, ◌+◌, ◌-◌, ◌<◌, ◌≤◌, ◌==◌, ◌&&◌, Bool, false, if◌then◌else◌}
-use Rattle.std.proofs.Common.{List, [], ◌++◌, length, length-append, Option, Some, None, IfSome, Ok}
+use Rattle.std.proofs.Common.{◌≡◌, ◌⊎◌, inl, inr, refl, sym, ap, subst, ◌∙◌, arith, ℕ, ◌+◌, ◌-◌, ◌<◌, ◌≤◌, ◌==◌, ◌&&◌, Bool, false, if◌then◌else◌, List, [], ◌++◌, length, length-append}
+use Rattle.std.proofs.Common.{Option, Some, None, IfSome, Ok}
 use Rattle.std.specs.Prelude.{codes, nat_le}
 use Rattle.std.proofs.lemmas.Bool.{ne_eqb, cases_eq, cases_Bool}
 use Rattle.std.proofs.lemmas.List.{take_all}
@@ -15,9 +15,9 @@ use Rattle.rec_journal.specs.Stops.{keep_in, IsSafe}
 use Rattle.rec_journal.specs.Forgetting.{forgotten_journal}
 use Rattle.rec_journal.proofs.lemmas.plans.KeptLemmas.{kept-zero, length-kept, keep_within}
 use Rattle.rec_tools.specs.Home.{Contents, Write, writes_by}
-use Rattle.rec_tools.specs.Requests.{AskedChange, editing, moving, reverting, forgetting, adopting, writing, Asked, looking, listing, showing, listing_changes, changing, previewing}
+use Rattle.rec_tools.specs.Asked.{Reading, AskedChange, editing, moving, reverting, forgetting, adopting, writing, Asked, looking, listing, showing, listing_changes, changing, previewing}
 use Rattle.rec_tools.specs.Reverting.{IsRevertOf}
-use Rattle.rec_tools.specs.Outcomes.{Outcome, IsChangeOutcome, IsRequestOutcome, IsMade, IsPutBy, IsPutOn, IsWritten, edit_reply, revert_reply, write_reply}
+use Rattle.rec_tools.specs.Outcomes.{Outcome, IsChangeOutcome, IsRequestOutcome, IsPutBy, IsPutOn, edit_reply, revert_reply, write_reply}
 use Rattle.rec_tools.proofs.lemmas.runs.RunLemmas.{writes_nothing}
 use Rattle.rec_files.specs.Leftovers.{BeginsAsJournal, IsStopBetween}
 
@@ -118,13 +118,15 @@ module _ (c : Contents) (regular : IsRegular c.journal) where
       by_writes outcome (writes_by plan.journal (Some plan.file)) (ap (λ (x : Outcome). x.writes) e)
       (plan_puts o _ opens plan planned_so.safe (Edited (edit_to o made.0 made.1.text made.1.steps)) planned_so.planned.2 refl refl)
 
-  puts-put : (MakesOf : _) (reply_for : _) (outcome : Outcome) → IsPutBy MakesOf reply_for c (Ok outcome) → ArePuts c outcome.writes
-  puts-put MakesOf reply_for outcome (inl refused) = let e = refused.2 in cc
-  puts-put MakesOf reply_for outcome (inr (text, is, put)) = puts-put_on MakesOf reply_for outcome put
+  puts-put : {X : Type 0} (Reads : Reading X) (MakesOf : _) (reply_for : _) (outcome : Outcome) → IsPutBy Reads MakesOf reply_for c (Ok outcome)
+      → ArePuts c outcome.writes
+  puts-put Reads MakesOf reply_for outcome (inl refused) = let e = refused.2 in cc
+  puts-put Reads MakesOf reply_for outcome (inr (text, is, put)) = puts-put_on MakesOf reply_for outcome put
 
   puts-change : (change : AskedChange) (o : Outcome) → IsChangeOutcome c change (Ok o) → ArePuts c o.writes
-  puts-change (editing IsEdit) outcome is = puts-put (λ _. IsMade IsEdit c.file) (λ o. edit_reply o.next o.dropped) outcome is
-  puts-change (reverting number force) outcome is = puts-put (λ o. IsRevertOf number force o c.file) (λ o. revert_reply number o.next) outcome is
+  puts-change (editing Reads Makes) outcome is = puts-put Reads (λ _. Makes c.file) (λ o. edit_reply o.next o.dropped) outcome is
+  puts-change (reverting Reads number Reverts) outcome is =
+      puts-put Reads (λ o. IsRevertOf number Reverts o c.file) (λ o. revert_reply number o.next) outcome is
   puts-change (moving direction through) outcome (inl refused) = let e = refused.2 in cc
   puts-change (moving direction through) outcome (inr (o, opens, (settled, here, m))) =
       by_writes outcome (writes_by m.plan.journal (Some m.plan.file)) (ap (λ (x : Outcome). x.writes) m.is)
@@ -147,8 +149,8 @@ module _ (c : Contents) (regular : IsRegular c.journal) where
     begins = begins adopts.plan.file adopts.plan.journal _ adopts.planned.safe.next;
     between = tt;
   })
-  puts-change (writing force over text) outcome is =
-      puts-put_on (λ _. IsWritten force over text c.file) (λ o. write_reply o.next o.dropped) outcome is
+  puts-change (writing Makes) outcome is =
+      puts-put_on (λ _. Makes c.file) (λ o. write_reply o.next o.dropped) outcome is
 
   puts : (asked : Asked) (o : Outcome) → IsRequestOutcome c asked (Ok o) → ArePuts c o.writes
   puts (looking IsText) outcome is = inl (writes_nothing c (looking IsText) outcome tt is)

@@ -1,6 +1,6 @@
 -- A request on a disk: its calls, and what is left at any moment of them.
-use Rattle.std.proofs.Common.{◌≡◌, ◌⊎◌, inl, inr, refl, sym, ◌∙◌, ap, subst, arith, ℕ, zero, suc, ◌≤◌, Bool, false}
-use Rattle.std.proofs.Common.{List, [], ◌∷◌, ◌++◌, length, take, length-append, append-nil, replicate, Option, Some, None, IfSome, IsSomeAnd, Result, Ok, Err}
+use Rattle.std.proofs.Common.{◌≡◌, ◌⊎◌, inl, inr, refl, sym, ◌∙◌, ap, subst, arith, ℕ, zero, suc, ◌≤◌, Bool, false, List, [], ◌∷◌, ◌++◌, length, take, length-append, append-nil, replicate}
+use Rattle.std.proofs.Common.{Option, Some, None, IfSome, IsSomeAnd, Result, Ok, Err}
 use Rattle.std.specs.Prelude.{option_map, string_bytes}
 use Rattle.rec_disk.specs.Disk.{State, Story, Look, Told, AtAnyMoment}
 use Rattle.rec_files.specs.declared.files.DiskHome.{DiskHome}
@@ -16,17 +16,19 @@ use Rattle.rec_tools.specs.declared.request.Request.{Request}
 use Rattle.rec_tools.specs.declared.request.Request.TheVariants.{Change as Changes}
 use Rattle.rec_tools.specs.Home.{Contents, Write, Call, got, lacked, unread, put_all, put_some, written, writes_by, left_by, TellsOf, TellAll, Went, content_of}
 use Rattle.rec_tools.specs.Printouts.{Printed}
-use Rattle.rec_tools.specs.Requests.{Asked, changing, change_of, asked_of, reads_of}
+use Rattle.rec_tools.specs.Requests.{change_of, asked_of}
+use Rattle.rec_tools.specs.Asked.{Asked, changing, reads_of}
 use Rattle.rec_tools.specs.Outcomes.{Outcome, IsRequestOutcome}
 use Rattle.rec_tools.specs.Attempts.{Answer, gots, puts, StopsReading, AreRead, StopsWriting, Does, Attempts, AttemptsAll}
 use Rattle.rec_tools.specs.Through.{move_through, moves_through, PreviewsThrough}
 use Rattle.rec_diff.specs.declared.style.DiffStyle.{DiffStyle}
 use Rattle.rec_journal.specs.declared.patch.Direction.{Direction}
-use Rattle.rec_tools.specs.Machine.{State as Machine, IsOldOrNext, Stands}
+use Rattle.rec_tools.specs.Stands.{Stands}
+use Rattle.rec_tools.specs.Answers.{IsOldOrNext}
+use Rattle.rec_tools.specs.States.{State as Machine}
 use Rattle.rec_tools.specs.Guarantee.{StopsAreSteps}
-use Rattle.rec_files.specs.OnDisk.{Places, Shows, Holds, IsRead, IsSecure, CanSync, IsCallAt, IsWhole, writes_of, contents_on, or_empty}
-use Rattle.rec_files.specs.OnDisk.{StandsThen, SecureRequest, LastingRequest, Sites, sites_of, IsNext}
-use Rattle.rec_files.specs.OnDisk.{Recovers, RecoversBy, RecoversAt, RecoversThen, RecoversRequest, IsRequestAt, AreRequestsAt, places_by}
+use Rattle.rec_files.specs.OnDisk.{Places, Shows, Holds, IsRead, IsSecure, CanSync, IsCallAt, IsWhole, writes_of, contents_on, or_empty, StandsThen, SecureRequest, LastingRequest, Sites}
+use Rattle.rec_files.specs.OnDisk.{sites_of, IsNext, Recovers, RecoversBy, RecoversAt, RecoversThen, RecoversRequest, IsRequestAt, AreRequestsAt, places_by}
 use Rattle.rec_files.specs.Leftovers.{IsStopBetween}
 use Rattle.rec_files.proofs.lemmas.Outcomes.{Puts, puts_left}
 use Rattle.rec_files.proofs.lemmas.Holding.{read_there}

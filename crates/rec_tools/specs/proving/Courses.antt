@@ -10,11 +10,11 @@ use Rattle.rec_tools.specs.declared.decision.NewFile.{NewFile}
 use Rattle.rec_tools.specs.declared.decision.Decision.{Decision}
 use Rattle.rec_tools.specs.declared.decision.Decision.TheVariants.{Stay, Put, Adopt}
 use Rattle.rec_tools.specs.Home.{Contents}
-use Rattle.rec_tools.specs.Printouts.{Printout}
-use Rattle.rec_tools.specs.Requests.{AskedChange, previewing}
+use Rattle.rec_tools.specs.Asked.{Printout, AskedChange, previewing}
 use Rattle.rec_journal.specs.declared.patch.Direction.TheVariants.{Forward}
 use Rattle.rec_tools.specs.Outcomes.{LeadsAcross, LeadsFrom, IsChangeOutcome, IsRequestOutcome, printing, reply_in}
 use Rattle.rec_tools.specs.Attempts.{Answer}
+use Rattle.rec_tools.specs.Requests.{as_diff}
 
 abbrev pub contents : List ℕ → List ℕ → Contents
 contents file journal = record { file = file; journal = journal }
@@ -53,7 +53,7 @@ LeadsSo file (Adopt put from steps reply) = LeadsBy steps from file
 -- what is printed for a preview, with its reply, or why there is none
 abbrev pub IsPreviewed : DiffStyle → List ℕ → List ℕ → AskedChange → Result Printout Fault → Type 0
 IsPreviewed style file journal change (Ok p) =
-    IsRequestOutcome (contents file journal) (previewing style change) (Ok (printing p.text p.reply))
+    IsRequestOutcome (contents file journal) (previewing (as_diff style) change) (Ok (printing p.text p.reply))
 IsPreviewed style file journal change (Err fault) = IsChangeOutcome (contents file journal) change (Err fault)
 
 -- a decision's reply, or why it is refused

@@ -7,7 +7,8 @@ use Rattle.rec_tools.specs.declared.through.Through.{Through}
 use Rattle.rec_tools.specs.Printouts.{Printed, WentOut, IsSilence}
 use Rattle.rec_diff.specs.declared.style.DiffStyle.{DiffStyle}
 use Rattle.rec_tools.specs.Home.{Contents, Call}
-use Rattle.rec_tools.specs.Requests.{AskedChange, previewing, change_of}
+use Rattle.rec_tools.specs.Requests.{change_of, as_diff}
+use Rattle.rec_tools.specs.Asked.{AskedChange, previewing}
 use Rattle.rec_tools.specs.Attempts.{Answer, AttemptsAll, Does, gots}
 use Rattle.rec_tools.specs.Through.{move_through, moves_through, EndsThrough, WouldLeave, PreviewsAgain}
 
@@ -29,7 +30,7 @@ abbrev pub IsDryMove : {S : Type 0} → (S → Option (List ℕ)) → (S → ℕ
     → Contents → S → S → Answer → Type 0
 IsDryMove told failures style change c d out now answer = (p : Printed) × WentOut told failures out now p
     × (p.before ≤ p.after)
-    × Does c (previewing style change) answer (gots c (TheFile ∷ TheJournal ∷ [])) p
+    × Does c (previewing (as_diff style) change) answer (gots c (TheFile ∷ TheJournal ∷ [])) p
     × IfOk answer (λ reply. WouldLeave c change reply d)
 
 -- on contents in memory, which became the last, they were previewed so, and this is told of them

@@ -2,7 +2,7 @@
 use Rattle.std.specs.Prelude.{List}
 use Rattle.rec_tools.specs.Home.{Call, Went}
 use Rattle.rec_tools.specs.Printouts.{Printed, IsSilence}
-use Rattle.rec_tools.specs.Requests.{Asked}
+use Rattle.rec_tools.specs.Asked.{Asked}
 use Rattle.rec_tools.specs.Attempts.{Answer, Attempts}
 
 -- the calls were made, and they stand in a relation

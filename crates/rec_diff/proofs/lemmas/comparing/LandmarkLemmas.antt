@@ -31,16 +31,16 @@ neither_before : (text other : List ℕ) → (not (is_before text other) && not 
 neither_before text other =
     neither (slice_cmp nat_cmp text other) (slice_cmp nat_cmp other text) (nat_list_cmp_total.antisymm other text) ∙ sym (texts_ties text other)
 
-texts_order : IsStrictWeakOrder is_before
+pub texts_order : IsStrictWeakOrder is_before
 texts_order = ranks_by nat_list_cmp_total (λ (text : List ℕ). text)
 
 lines_order : IsStrictWeakOrder (λ (x y : Line). is_before x.text.now y.text.now)
 lines_order = ranks_by nat_list_cmp_total (λ (l : Line). l.text.now)
 
-equal_from : (text other : List ℕ) → is_before text other ≡ false → is_before other text ≡ false → bytes_eq text other ≡ true
+pub equal_from : (text other : List ℕ) → is_before text other ≡ false → is_before other text ≡ false → bytes_eq text other ≡ true
 equal_from text other one two = sym (neither_before text other) ∙ ap₂ (λ x y. not x && not y) one two
 
-before_apart : (text other : List ℕ) → is_before text other ≡ true → bytes_eq text other ≡ false
+pub before_apart : (text other : List ℕ) → is_before text other ≡ true → bytes_eq text other ≡ false
 before_apart text other before = sym (neither_before text other) ∙ ap (λ x. not x && not (is_before other text)) before
 
 -- what `<` answers
@@ -121,10 +121,10 @@ places_apart text l (m ∷ some) other after sorted =
     false≢true (sym other ∙ equal_from l.text.now text after not_before)) in
     ap (map (λ (x : Line). x.at)) (cond-false (bytes_eq m.text.now text) _ _ apart) ∙ places_apart text l some other after sorted.1
 
-places_first : (text : List ℕ) (l : Line) (some : List Line) → bytes_eq l.text.now text ≡ true → places_in text (l ∷ some) ≡ l.at ∷ places_in text some
+pub places_first : (text : List ℕ) (l : Line) (some : List Line) → bytes_eq l.text.now text ≡ true → places_in text (l ∷ some) ≡ l.at ∷ places_in text some
 places_first text l some same = ap (map (λ (x : Line). x.at)) (cond-true (bytes_eq l.text.now text) _ _ same)
 
-places_later : (text : List ℕ) (l : Line) (some : List Line) → bytes_eq l.text.now text ≡ false → places_in text (l ∷ some) ≡ places_in text some
+pub places_later : (text : List ℕ) (l : Line) (some : List Line) → bytes_eq l.text.now text ≡ false → places_in text (l ∷ some) ≡ places_in text some
 places_later text l some other = ap (map (λ (x : Line). x.at)) (cond-false (bytes_eq l.text.now text) _ _ other)
 
 -- the first of these is it, and the next one isn't
@@ -145,7 +145,7 @@ alone_none text l some sorted first other = ap only (places_later text l some ot
 
 -- ---- the lines of a text
 
-places-push : (text : List ℕ) (some : List Line) (l : Line) → places_in text (some ++ l ∷ []) ≡ places_in text some ++ cond (bytes_eq l.text.now text) (l.at ∷ []) []
+pub places-push : (text : List ℕ) (some : List Line) (l : Line) → places_in text (some ++ l ∷ []) ≡ places_in text some ++ cond (bytes_eq l.text.now text) (l.at ∷ []) []
 places-push text some l =
     ap (map (λ (x : Line). x.at)) (filter-append (λ (x : Line). bytes_eq x.text.now text) some (l ∷ []))
     ∙ map-append (λ (x : Line). x.at) (filter (λ (x : Line). bytes_eq x.text.now text) some) (filter (λ (x : Line). bytes_eq x.text.now text) (l ∷ []))
@@ -196,11 +196,14 @@ all_read text some rest are none = λ line.
 
 -- ---- and sorted
 
-pub lines_moved : (text : List ℕ) (some others : List Line) → AreLinesOf text some → IsStableBy (λ (x y : Line). is_before x.text.now y.text.now) some others
-    → AreLinesOf text others
-lines_moved text some others are stable = λ line.
+pub places_moved : (some others : List Line) → IsStableBy (λ (x y : Line). is_before x.text.now y.text.now) some others
+    → (line : List ℕ) → places_in line others ≡ places_in line some
+places_moved some others stable = λ line.
     let l : Line = record { text = record { ref_ptr = (0, 0); now = line }; at = 0 } in
     let alike : (x : Line) → bytes_eq x.text.now line ≡ ties (λ (x y : Line). is_before x.text.now y.text.now) l x = λ x.
     bytes_eq-sym x.text.now line ∙ sym (neither_before line x.text.now) in
     ap (map (λ (x : Line). x.at)) (filter_agree _ _ alike others ∙ stable l ∙ sym (filter_agree _ _ alike some))
-    ∙ are line
+
+pub lines_moved : (text : List ℕ) (some others : List Line) → AreLinesOf text some → IsStableBy (λ (x y : Line). is_before x.text.now y.text.now) some others
+    → AreLinesOf text others
+lines_moved text some others are stable = λ line. places_moved some others stable line ∙ are line

@@ -24,7 +24,8 @@ use Rattle.rec_edit.specs.Outcome.{EditScript, IsEditScript, made_of}
 use Rattle.rec_edit.proofs.lemmas.scripts.ChangeLemmas.{IsSome}
 use Rattle.rec_edit.specs.Rules.{canonical, fields_of}
 use Rattle.rec_text.proofs.lemmas.ListLemmas.{AllByRecursion-append, AllByRecursion-prefix}
-use Rattle.rec_edit.proofs.lemmas.records.ClosedLemmas.{name_of-closed, named-closed}
+use Rattle.rec_edit.proofs.lemmas.records.ClosedLemmas.{named-closed}
+use Rattle.rec_edit.proofs.lemmas.scripts.WellFormedLemmas.{name_of-closed}
 use Rattle.rec_edit.proofs.lemmas.outcomes.EffectLemmas.{closed_owns, elements_part, type_of-closed, said, said-records}
 use Rattle.rec_edit.proofs.lemmas.automatic.FilledLemmas.{given_at, names-given, ArePlain, fields-given_at, plain_or_none, sets_plain}
 use Rattle.rec_edit.proofs.lemmas.records.FitLemmas.{closed-own, list_any-closed, Cut-AreRecords, IsOwn, between_fields-own, with_own-some, records_there, append_fails}

@@ -13,7 +13,7 @@ use Rattle.rec_edit.specs.declared.draft.Draft.{Draft}
 use Rattle.rec_edit.specs.Script.{Part, without_newline, lacks_newline, settled, old_pieces}
 use Rattle.rec_edit.specs.Blocks.{one, kept, put}
 use Rattle.rec_edit.specs.proving.Drafts.{IsDraft, LeadsOn, AreKept, AreLines}
-use Rattle.rec_edit.proofs.lemmas.scripts.WellFormedLemmas.{AreWhole}
+use Rattle.rec_edit.proofs.lemmas.scripts.WellFormedLemmas.{AreWhole, without_newline-push}
 
 -- ---- one after another
 
@@ -39,11 +39,6 @@ AreWhole-prefix (piece ∷ next ∷ some) more are =
     record { well_formed = (are.well_formed.0, rest.well_formed); lines_end = (are.lines_end.0, rest.lines_end) }
 
 -- ---- the newline at the end
-
-without_newline-push : (bytes : List ℕ) → without_newline (bytes ++ 10 ∷ []) ≡ bytes
-without_newline-push [] = refl
-without_newline-push (b ∷ []) = refl
-without_newline-push (b ∷ c ∷ bytes) = ap (λ bs. b ∷ bs) (without_newline-push (c ∷ bytes))
 
 pub closed_text-closed : (text : List ℕ) → ends_newline text ≡ true → closed_text text ≡ text
 closed_text-closed text ends = rw ends refl

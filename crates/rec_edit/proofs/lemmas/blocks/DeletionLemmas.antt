@@ -3,7 +3,7 @@ use Rattle.std.proofs.Common.{◌≡◌, ◌∙◌, ℕ, ◌+◌, ◌≤◌, Lis
 use Rattle.std.specs.List.{prefix_len}
 use Rattle.std.specs.declared.ops.Range.{Range}
 use Rattle.std.proofs.lemmas.Bool.{cases_Bool}
-use Rattle.std.proofs.lemmas.List.{append_assoc, take-append-drop, take_at}
+use Rattle.std.proofs.lemmas.List.{append_assoc, take-append-drop, take_at, drop-drop}
 use Rattle.std.proofs.lemmas.List.Sums.{prefix_len-le-length}
 use Rattle.rec_text.specs.declared.element.Element.{Element}
 use Rattle.rec_text.specs.Elements.{Piece, text_of}
@@ -18,7 +18,7 @@ use Rattle.rec_edit.specs.proving.Laying.{IsPlace, block_at, span_at, TakesAll}
 use Rattle.rec_edit.proofs.lemmas.scripts.WellFormedLemmas.{AreWhole}
 use Rattle.rec_edit.proofs.lemmas.blocks.BlockLemmas.{AreWhole-following, AreKept-kept, LeadsOn-append, old_pieces-kept}
 use Rattle.rec_edit.proofs.lemmas.scripts.ScriptLemmas.{old_pieces-settled}
-use Rattle.rec_edit.proofs.lemmas.blocks.LayingLemmas.{between, between-parts, length-elements, drop-drop}
+use Rattle.rec_edit.proofs.lemmas.blocks.LayingLemmas.{between, between-parts, length-elements}
 
 pub prefix_len-pieces : (test : Piece → Bool) (elements : List Element) → prefix_len (λ e. test (piece_of e)) elements ≡ prefix_len test (pieces_of elements)
 prefix_len-pieces test [] = refl

@@ -1,10 +1,10 @@
 -- What is made of a record by each kind of edit.
-use Rattle.std.proofs.Common.{◌≡◌, ◌∙◌, ℕ, zero, suc, ◌+◌, Bool, true, false, ◌==◌, List, [], ◌∷◌, ◌++◌, map, filter, take, drop, refl, ap, ap₂, sym, subst, inl, inr, arith, Some}
+use Rattle.std.proofs.Common.{◌≡◌, ◌∙◌, ℕ, zero, suc, ◌+◌, Bool, true, false, ◌==◌, List, [], ◌∷◌, ◌++◌, map, filter, drop, refl, ap, ap₂, sym, inl, inr, arith, Some}
 use Rattle.std.proofs.Common.{if◌then◌else◌}
 use Rattle.std.specs.Prelude.{flat_map, reverse}
 use Rattle.std.specs.List.{AllByRecursion, list_any, list_all, enumerate_from, slice_get, prefix_len}
 use Rattle.std.proofs.lemmas.Bool.{false≢true, and_parts, or_parts, eqb-true, cases_Bool}
-use Rattle.std.proofs.lemmas.List.{append_assoc, take-append-drop}
+use Rattle.std.proofs.lemmas.List.{append_assoc}
 use Rattle.rec_text.specs.Canonical.{canonical, is_plain_name}
 use Rattle.rec_text.specs.Elements.{Piece, IsElement, has_name, text_of}
 use Rattle.rec_text.specs.Records.{is_blank_piece, is_field_piece}
@@ -22,8 +22,10 @@ use Rattle.rec_edit.proofs.lemmas.outcomes.OutcomeLemmas.{AreWritten}
 use Rattle.rec_edit.specs.Wording.{names_of_action}
 use Rattle.rec_edit.proofs.lemmas.scripts.ScriptLemmas.{new_pieces-append}
 use Rattle.rec_edit.proofs.lemmas.scripts.LaidLemmas.{Neat-closed, closed-blank, closed-field, Neat, map-closed, map-closed-opened, piece_with, ends_newline-push}
+use Rattle.rec_edit.proofs.lemmas.layouts.NeatLemmas.{AllByRecursion-drop}
 use Rattle.rec_edit.proofs.lemmas.layouts.NeatLemmas.{IsPlainAction, picked_neat, IsPlainAt, picks_are_plain, found, CanStandFor-kept, picked_can_stand, added_are_closed, commented_neat}
-use Rattle.rec_edit.proofs.lemmas.records.ClosedLemmas.{picks-closed, name_of-closed}
+use Rattle.rec_edit.proofs.lemmas.records.ClosedLemmas.{picks-closed}
+use Rattle.rec_edit.proofs.lemmas.scripts.WellFormedLemmas.{name_of-closed}
 use Rattle.rec_edit.proofs.lemmas.records.FitLemmas.{list_any-closed, append_fails}
 use Rattle.rec_edit.proofs.lemmas.scripts.WellFormedLemmas.{IsClosed, IsBare, commented_are_closed, commented_are_bare}
 use Rattle.rec_edit.proofs.lemmas.blocks.TurnLemmas.{IsFine, fine_one, fine_kept, new_pieces-kept, Turns, all_ends}
@@ -44,15 +46,12 @@ drop-fails test (suc n) (piece ∷ pieces) none = drop-fails test n pieces (or_p
 abbrev pub turn_deleted : Block → Block
 turn_deleted block = record { own = []; gap = map closed (drop (prefix_len is_blank_piece block.gap) block.gap) }
 
-AllByRecursion-drop : (n : ℕ) (pieces : List Piece) → AllByRecursion IsElement pieces → AllByRecursion IsElement (drop n pieces)
-AllByRecursion-drop n pieces every = AllByRecursion-following IsElement (take n pieces) (drop n pieces) (subst (AllByRecursion IsElement) (sym (take-append-drop n pieces)) every)
-
 pub Turns-deleted : Turns deleted turn_deleted (λ own. [])
 Turns-deleted = record {
   fine = λ block whole. (
     record { lines = tt; bares = λ lacks. tt; reopens = λ lacks. refl },
     fine_kept (drop (prefix_len is_blank_piece block.gap) block.gap)
-        (AllByRecursion-drop (prefix_len is_blank_piece block.gap) block.gap (AllByRecursion-following IsElement block.own block.gap whole)),
+        (AllByRecursion-drop IsElement (prefix_len is_blank_piece block.gap) block.gap (AllByRecursion-following IsElement block.own block.gap whole)),
   );
   new = λ block whole. new_pieces-kept (drop (prefix_len is_blank_piece block.gap) block.gap);
   own = λ block whole. refl;

@@ -4,7 +4,7 @@ use Rattle.std.proofs.lemmas.List.Sums.{sum_by-cons}
 use Rattle.std.specs.List.{AllByRecursion, enumerate_from}
 use Rattle.std.specs.Str.{bytes_eq}
 use Rattle.std.specs.declared.ops.Range.{Range}
-use Rattle.std.proofs.lemmas.List.{append_assoc, take-append-drop, drop-append-le, length-append, length-drop, length-take-le, take_all, drop_at, drop_all, append_cancel_right}
+use Rattle.std.proofs.lemmas.List.{append_assoc, take-append-drop, drop-append-le, length-append, length-drop, length-take-le, take_all, drop_at, drop_all, take-take, append_cancel_right}
 use Rattle.rec_text.specs.Elements.{Piece, AreElementsOf, text_of}
 use Rattle.rec_text.specs.Records.{AreAscending, AreRecords, IsRecord, elements_in}
 use Rattle.rec_text.proofs.lemmas.elements.ElementLemmas.{text_of-append}
@@ -21,24 +21,10 @@ use Rattle.rec_edit.specs.proving.Drafts.{IsDraft, LeadsOn, AreRanges}
 use Rattle.rec_edit.specs.proving.Laying.{IsPlace, block_at, span_at, IsLaidBy, IsMadeOf, TakesAll, AreMarksOf, AreAllMarked, is_marked}
 use Rattle.rec_edit.proofs.lemmas.scripts.ScriptLemmas.{old_pieces-append, new_pieces-append, old_pieces-settled}
 use Rattle.rec_edit.proofs.lemmas.scripts.WellFormedLemmas.{AreWhole}
+use Rattle.rec_edit.proofs.lemmas.layouts.NeatLemmas.{AllByRecursion-drop}
 use Rattle.rec_edit.proofs.lemmas.blocks.BlockLemmas.{AreWhole-prefix, AreWhole-following, settled-append, old_pieces-kept}
 
 -- ---- elements from an index to another
-
-take-take : {X : Type 0} (n m : ℕ) (xs : List X) → n ≤ m → take n (take m xs) ≡ take n xs
-take-take zero m xs le = refl
-take-take (suc n) zero xs le = absurd (omega arith)
-take-take (suc n) (suc m) [] le = refl
-take-take (suc n) (suc m) (x ∷ xs) le = ap (λ l. x ∷ l) (take-take n m xs (omega arith))
-
-drop-nil : {X : Type 0} (n : ℕ) → ◌≡◌ {A = List X} (drop n []) []
-drop-nil zero = refl
-drop-nil (suc n) = refl
-
-pub drop-drop : {X : Type 0} (n m : ℕ) (xs : List X) → drop n (drop m xs) ≡ drop (m + n) xs
-drop-drop n zero xs = ap (λ k. drop k xs) (let e : n ≡ 0 + n = omega arith in e)
-drop-drop n (suc m) [] = drop-nil n ∙ sym (drop-nil (suc m + n))
-drop-drop n (suc m) (x ∷ xs) = drop-drop n m xs ∙ ap (λ k. drop k (x ∷ xs)) (let e : suc (m + n) ≡ suc m + n = omega arith in e)
 
 module _ (pieces : List Piece) where
   abbrev pub between : ℕ → ℕ → List Piece
@@ -74,11 +60,6 @@ AreAscending-drop : (i least : ℕ) (records : List (Range ℕ)) → AreAscendin
 AreAscending-drop zero least records ascending = (least, ascending)
 AreAscending-drop (suc i) least [] ascending = (least, tt)
 AreAscending-drop (suc i) least (own_range ∷ records) ascending = AreAscending-drop i own_range.end records ascending.1
-
-AllByRecursion-drop : {X : Type 0} (P : X → Type 0) (i : ℕ) (xs : List X) → AllByRecursion P xs → AllByRecursion P (drop i xs)
-AllByRecursion-drop P zero xs all = all
-AllByRecursion-drop P (suc i) [] all = tt
-AllByRecursion-drop P (suc i) (x ∷ xs) all = AllByRecursion-drop P i xs all.1
 
 module _ (pieces : List Piece) where
   abbrev IsWithin : Range ℕ → Type 0

@@ -4,14 +4,13 @@ use Rattle.std.proofs.Common.{inl, inr, arith}
 use Rattle.std.specs.List.{AllByRecursion, list_all, list_any}
 use Rattle.std.specs.Option.{option_map, option_map_or}
 use Rattle.std.specs.Str.{bytes_eq}
-use Rattle.std.proofs.lemmas.Bool.{cases_Bool, false≢true, or_from, or_left, and_parts, eqb-true}
+use Rattle.std.proofs.lemmas.Bool.{cases_Bool, false≢true, or_from, and_parts, eqb-true}
 use Rattle.std.proofs.lemmas.List.{append-nil, take_at}
 use Rattle.rec_text.specs.declared.element.Kind.{Kind}
 use Rattle.rec_text.specs.declared.element.Kind.TheVariants.{Blank, Comment, Field}
 use Rattle.rec_text.specs.Bytes.{begins_name, continues_name, ends_newline, is_letter}
 use Rattle.rec_text.specs.Canonical.{is_plain_name, field_of, folded}
 use Rattle.rec_text.specs.Elements.{Piece, IsElement, is_element, name_end, colon_of, name_of, has_name}
-use Rattle.rec_text.proofs.lemmas.values.CanonicalLemmas.{name_end-all}
 use Rattle.rec_text.proofs.lemmas.values.ValueLemmas.{passes_apart}
 use Rattle.rec_sex.specs.declared.lists.field_list.Item.{Item}
 use Rattle.rec_check.specs.Descriptors.{rec_name}
@@ -19,7 +18,9 @@ use Rattle.rec_edit.specs.declared.request.Action.{Action}
 use Rattle.rec_edit.specs.declared.request.Action.TheVariants.{Set, Add, SetAdd, Rename, Delete, Comment as CommentFields}
 use Rattle.rec_edit.specs.Script.{closed}
 use Rattle.rec_edit.specs.Rules.{physical_lines, added, canonical, picked_becomes, picks_none, renamed}
-use Rattle.rec_edit.proofs.lemmas.records.ClosedLemmas.{colon_of-more, field_colon, name_of-closed}
+use Rattle.rec_edit.proofs.lemmas.records.ClosedLemmas.{field_colon}
+use Rattle.rec_edit.proofs.lemmas.scripts.WellFormedLemmas.{colon_of-name, name_of-closed}
+use Rattle.rec_text.proofs.lemmas.elements.FieldLemmas.{colon_of-append}
 use Rattle.rec_edit.proofs.lemmas.layouts.NeatLemmas.{IsPlainAction}
 
 -- ---- comments
@@ -38,13 +39,6 @@ not_rec (b ∷ bs) plain =
     let letter : is_letter b ≡ true = (and_parts (is_letter b) (list_all continues_name bs) plain).0 in
     let other : (b == 37) ≡ false = passes_apart is_letter b 37 letter refl in
     rw other refl
-
-pub plain_colon : (name rest : List ℕ) → is_plain_name name ≡ true → colon_of (name ++ 58 ∷ rest) ≡ Some (length name)
-plain_colon [] rest plain = absurd (false≢true plain)
-plain_colon (b ∷ bs) rest plain =
-    let parts = and_parts (is_letter b) (list_all continues_name bs) plain in
-    let begins : begins_name b ≡ true = or_left (is_letter b) (b == 37) parts.0 in
-    rw begins (ap (option_map suc) (name_end-all bs rest parts.1))
 
 pub named_as : (name rest : List ℕ) → colon_of (name ++ 58 ∷ rest) ≡ Some (length name) → name_of (record { kind = Field; bytes = name ++ 58 ∷ rest }) ≡ name
 named_as name rest at = ap (λ o. option_map_or (λ c. take c (name ++ 58 ∷ rest)) o []) at ∙ take_at name (58 ∷ rest) (length name) refl
@@ -124,7 +118,7 @@ canonical_other value piece other = ap (λ name. bytes_eq name rec_name) (name_o
 
 pub plain_canonical : (name value : List ℕ) → is_plain_name name ≡ true → has_name rec_name (canonical name value) ≡ false
 plain_canonical name value plain =
-    ap (λ n. bytes_eq n rec_name) (named_as name (32 ∷ (folded value ++ 10 ∷ [])) (plain_colon name (32 ∷ (folded value ++ 10 ∷ [])) plain)) ∙ not_rec name plain
+    ap (λ n. bytes_eq n rec_name) (named_as name (32 ∷ (folded value ++ 10 ∷ [])) (colon_of-name name (32 ∷ (folded value ++ 10 ∷ [])) plain)) ∙ not_rec name plain
 
 renamed_field : (name bytes : List ℕ) (c : ℕ) → is_plain_name name ≡ true → colon_of bytes ≡ Some c → has_name rec_name (renamed name (record { kind = Field; bytes = bytes })) ≡ false
 renamed_field name bytes c plain at =
@@ -133,7 +127,7 @@ renamed_field name bytes c plain at =
     let parts : name ++ drop (length (name_of (record { kind = Field; bytes = bytes }))) bytes ≡ name ++ 58 ∷ drop (c + 1) bytes =
     ap (λ n. name ++ drop (length n) bytes) old ∙ ap (λ n. name ++ drop n bytes) is.size ∙ ap (λ l. name ++ l) is.colon in
     ap (λ bs. has_name rec_name (record { kind = Field; bytes = bs })) parts
-    ∙ ap (λ n. bytes_eq n rec_name) (named_as name (drop (c + 1) bytes) (plain_colon name (drop (c + 1) bytes) plain)) ∙ not_rec name plain
+    ∙ ap (λ n. bytes_eq n rec_name) (named_as name (drop (c + 1) bytes) (colon_of-name name (drop (c + 1) bytes) plain)) ∙ not_rec name plain
 
 renamed_more : (name : List ℕ) (kind : Kind) (bytes more : List ℕ) → is_plain_name name ≡ true → IsTrue (is_element kind bytes)
     → has_name rec_name (renamed name (record { kind = kind; bytes = bytes ++ more })) ≡ false
@@ -141,7 +135,7 @@ renamed_more name Blank bytes more plain is = refl
 renamed_more name Comment bytes more plain is = refl
 renamed_more name Field bytes more plain is =
     let colon = field_colon bytes is in
-    renamed_field name (bytes ++ more) colon.0 plain (colon_of-more bytes more colon.0 colon.1)
+    renamed_field name (bytes ++ more) colon.0 plain (colon_of-append bytes more colon.0 colon.1)
 
 renamed_other : (name : List ℕ) (piece : Piece) → is_plain_name name ≡ true → IsElement piece → has_name rec_name (renamed name (closed piece)) ≡ false
 renamed_other name piece plain is = elim (cases_Bool (ends_newline piece.bytes)) [

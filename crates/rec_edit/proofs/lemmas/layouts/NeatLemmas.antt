@@ -1,5 +1,5 @@
--- The layouts of records and fields make well-formed elements that end in newlines.
-use Rattle.std.proofs.Common.{◌≡◌, ◌∙◌, ℕ, suc, ◌+◌, ◌<◌, Bool, true, ◌==◌, List, [], ◌∷◌, ◌++◌, map, take, drop, Option, Some, None, refl, sym, ap, subst, inl, inr, arith, filter, zero}
+-- The edits of records and fields make well-formed elements that end in newlines.
+use Rattle.std.proofs.Common.{◌≡◌, ◌∙◌, ℕ, suc, ◌+◌, ◌<◌, Bool, true, ◌==◌, List, [], ◌∷◌, ◌++◌, map, take, drop, Option, Some, None, refl, sym, ap, subst, inl, inr, arith, filter}
 use Rattle.std.proofs.Common.{false, IsTrue, length}
 use Rattle.std.specs.List.{AllByRecursion, list_all, list_any, slice_get}
 use Rattle.std.specs.Prelude.{flat_map}
@@ -23,6 +23,7 @@ use Rattle.rec_text.specs.Bytes.{continues_name, ends_newline, is_letter}
 use Rattle.rec_text.specs.Values.{on_first}
 use Rattle.rec_text.proofs.lemmas.ListLemmas.{AllByRecursion-weaker, AllByRecursion-prefix, AllByRecursion-following, same_bytes, AllByRecursion-append}
 use Rattle.rec_edit.proofs.lemmas.scripts.WellFormedLemmas.{IsClosed, IsClosed-closed, bare-closed, commented_are_closed, commented_are_bare, canonical_is_closed, canonical_is_bare}
+use Rattle.rec_edit.proofs.lemmas.scripts.WellFormedLemmas.{ends_newline-at, ends_newline-drop}
 use Rattle.rec_edit.proofs.lemmas.scripts.WellFormedLemmas.{renamed_is_closed, renamed_is_bare, name_of-closed, kind-closed, AllByRecursion-map, CanStandFor}
 use Rattle.rec_text.proofs.lemmas.elements.NameLemmas.{IsBelow, colon_of_is_below}
 use Rattle.rec_text.proofs.lemmas.values.ValueLemmas.{passes_apart}
@@ -46,7 +47,7 @@ AllByRecursion-filter P test (x ∷ xs) all =
 AllByRecursion-take : {X : Type 0} (P : X → Type 0) (n : ℕ) (xs : List X) → AllByRecursion P xs → AllByRecursion P (take n xs)
 AllByRecursion-take P n xs all = AllByRecursion-prefix P (take n xs) (drop n xs) (subst (AllByRecursion P) (sym (take-append-drop n xs)) all)
 
-AllByRecursion-drop : {X : Type 0} (P : X → Type 0) (n : ℕ) (xs : List X) → AllByRecursion P xs → AllByRecursion P (drop n xs)
+pub AllByRecursion-drop : {X : Type 0} (P : X → Type 0) (n : ℕ) (xs : List X) → AllByRecursion P xs → AllByRecursion P (drop n xs)
 AllByRecursion-drop P n xs all = AllByRecursion-following P (take n xs) (drop n xs) (subst (AllByRecursion P) (sym (take-append-drop n xs)) all)
 
 -- one that passes the test, and of which holds what holds of each
@@ -162,32 +163,16 @@ added_are_closed (Rename fresh) items own plain values = tt
 added_are_closed Delete items own plain values = tt
 added_are_closed CommentFields items own plain values = tt
 
--- ---- the layouts of records and fields make elements that end in newlines
-
 -- ---- bytes that end in one newline
-
-ends_newline-following : (xs : List ℕ) (b : ℕ) (ys : List ℕ) → ends_newline (xs ++ b ∷ ys) ≡ ends_newline (b ∷ ys)
-ends_newline-following [] b ys = refl
-ends_newline-following (x ∷ []) b ys = refl
-ends_newline-following (x ∷ c ∷ xs) b ys = ends_newline-following (c ∷ xs) b ys
 
 -- a byte that is none, before bytes that don't end in one
 open_after : (b : ℕ) (bs : List ℕ) → (b == 10) ≡ false → ends_newline bs ≡ false → ends_newline (b ∷ bs) ≡ false
 open_after b [] other shut = other
 open_after b (c ∷ bs) other shut = shut
 
-open_rest : (b : ℕ) (bs : List ℕ) → ends_newline (b ∷ bs) ≡ false → ends_newline bs ≡ false
-open_rest b [] shut = refl
-open_rest b (c ∷ bs) shut = shut
-
-open_drop : (k : ℕ) (bs : List ℕ) → ends_newline bs ≡ false → ends_newline (drop k bs) ≡ false
-open_drop zero bs shut = shut
-open_drop (suc k) [] shut = shut
-open_drop (suc k) (b ∷ bs) shut = open_drop k bs (open_rest b bs shut)
-
 open_append : (xs ys : List ℕ) → ends_newline xs ≡ false → ends_newline ys ≡ false → ends_newline (xs ++ ys) ≡ false
 open_append xs [] first second = ap ends_newline (append-nil xs) ∙ first
-open_append xs (y ∷ ys) first second = ends_newline-following xs y ys ∙ second
+open_append xs (y ∷ ys) first second = ends_newline-at xs y ys ∙ second
 
 prefix_of : (bs : List ℕ) → ends_newline bs ≡ true → (prefix : List ℕ) × (bs ≡ prefix ++ 10 ∷ [])
 prefix_of [] ends = absurd (false≢true ends)
@@ -248,7 +233,7 @@ folded_open c (b ∷ value) other = elim (cases_Bool (b == 10)) [
 
 pub canonical_neat : (name value : List ℕ) → Neat (canonical name value)
 canonical_neat name value =
-    (name ++ (58 ∷ 32 ∷ folded value), sym (append_assoc name (58 ∷ 32 ∷ folded value) (10 ∷ [])), ends_newline-following name 58 (32 ∷ folded value) ∙ folded_open 32 value refl)
+    (name ++ (58 ∷ 32 ∷ folded value), sym (append_assoc name (58 ∷ 32 ∷ folded value) (10 ∷ [])), ends_newline-at name 58 (32 ∷ folded value) ∙ folded_open 32 value refl)
 
 pub canonical_ends : (name value : List ℕ) → Ends (canonical name value)
 canonical_ends name value = closed-neat (canonical name value) (canonical_neat name value)
@@ -291,10 +276,10 @@ renamed_neat : (name : List ℕ) (piece : Piece) → is_plain_name name ≡ true
 renamed_neat name piece plain (prefix, is, shut) = (
   name ++ drop (length (name_of piece)) prefix,
   renamed_parts name piece prefix is,
-  open_append name (drop (length (name_of piece)) prefix) (plain_open name plain) (open_drop (length (name_of piece)) prefix shut),
+  open_append name (drop (length (name_of piece)) prefix) (plain_open name plain) (ends_newline-drop (length (name_of piece)) prefix shut),
 )
 
--- ---- the layouts
+-- ---- what picked and added fields become
 
 -- the new name can be written
 abbrev pub IsPlainAction : Action → Type 0

@@ -19,7 +19,8 @@ use Rattle.rec_check.specs.Schemas.{Described, IsSchema}
 use Rattle.rec_edit.specs.Task.{Task}
 use Rattle.rec_edit.specs.Script.{Part, closed, new_pieces, edited_text}
 use Rattle.rec_edit.proofs.lemmas.records.TypedRecordLemmas.{described}
-use Rattle.rec_edit.proofs.lemmas.records.ClosedLemmas.{name_of-closed, value_of-closed}
+use Rattle.rec_edit.proofs.lemmas.records.ClosedLemmas.{value_of-closed}
+use Rattle.rec_edit.proofs.lemmas.scripts.WellFormedLemmas.{name_of-closed}
 
 pub map-map : {X Y Z : Type 0} (f : Y → Z) (g : X → Y) (xs : List X) → map (λ x. f (g x)) xs ≡ map f (map g xs)
 map-map f g [] = refl

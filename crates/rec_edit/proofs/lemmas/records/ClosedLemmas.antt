@@ -1,53 +1,26 @@
 -- A field has the same name and the same value with and without the newline at its end.
-use Rattle.std.proofs.Common.{◌≡◌, ◌∙◌, ℕ, suc, ◌+◌, ◌<◌, Bool, true, false, IsTrue, ◌==◌, ◌||◌, List, [], ◌∷◌, ◌++◌, Option, Some, None, length, map, take, drop, refl, ap, ap₂, sym, inl, inr, arith}
-use Rattle.std.proofs.Common.{zero, ◌&&◌, not, subst}
+use Rattle.std.proofs.Common.{◌≡◌, ◌∙◌, ℕ, ◌+◌, ◌<◌, Bool, true, false, IsTrue, ◌==◌, ◌||◌, List, [], ◌∷◌, ◌++◌, Option, Some, None, length, map, drop, refl, ap, ap₂, sym, inl, inr, arith}
+use Rattle.std.proofs.Common.{◌&&◌, not, subst}
 use Rattle.std.specs.Prelude.{if◌then◌else◌}
 use Rattle.std.specs.List.{AllByRecursion, list_any, join_with_byte}
-use Rattle.std.specs.Option.{option_map, option_map_or}
+use Rattle.std.specs.Option.{option_map_or}
 use Rattle.std.specs.Str.{bytes_eq}
-use Rattle.std.proofs.lemmas.Bool.{cases_Bool, false≢true, and_parts, and_from, or_parts}
-use Rattle.std.proofs.lemmas.List.{take-append-le, drop-append-le}
+use Rattle.std.proofs.lemmas.Bool.{cases_Bool, false≢true, and_parts, and_from, or_parts, not-true, not_from_false}
+use Rattle.std.proofs.lemmas.List.{drop-append-le}
 use Rattle.rec_text.specs.declared.element.Kind.{Kind}
 use Rattle.rec_text.specs.declared.element.Kind.TheVariants.{Blank, Comment, Field}
-use Rattle.rec_text.specs.Bytes.{begins_name, continues_name, ends_newline, is_blank, is_nil}
-use Rattle.rec_text.specs.Elements.{Piece, IsElement, name_end, colon_of, is_element, is_body, name_of, has_name, is_dangling, is_joined}
+use Rattle.rec_text.specs.Bytes.{ends_newline, is_blank, is_nil}
+use Rattle.rec_text.specs.Elements.{Piece, IsElement, colon_of, is_element, is_body, name_of, has_name, is_dangling, is_joined}
 use Rattle.rec_sex.specs.declared.lists.field_list.Item.{Item}
 use Rattle.rec_sex.specs.Lists.{places_from, occurrences, picks}
 use Rattle.rec_check.specs.Descriptors.{rec_name}
 use Rattle.rec_edit.specs.Script.{closed}
 use Rattle.rec_text.specs.Values.{body_value, lines_value, logical_lines, on_first, plus_value, unfolded, value_of, without_first}
+use Rattle.rec_text.proofs.lemmas.elements.FieldLemmas.{colon_of-append}
 use Rattle.rec_text.proofs.lemmas.elements.NameLemmas.{colon_is_within}
+use Rattle.rec_edit.proofs.lemmas.scripts.WellFormedLemmas.{ends_newline-drop, ends_newline-rest, name_of-closed}
 
 -- ---- a field has the same name with and without the newline at its end, and a list of fields picks the same
-
--- ---- the colon stays where it is, whatever stands after
-
-found_suc : (o : Option ℕ) (c : ℕ) → option_map suc o ≡ Some c → (k : ℕ) × (o ≡ Some k) × (c ≡ suc k)
-found_suc None c e = absurd (cc)
-found_suc (Some k) c e = (k, refl, cc)
-
-name_end-more : (bs more : List ℕ) (c : ℕ) → name_end bs ≡ Some c → name_end (bs ++ more) ≡ Some c
-name_end-more [] more c e = absurd (cc)
-name_end-more (b ∷ bs) more c e = elim (cases_Bool (b == 58)) [
-  | inl colon ↦ rw colon (rw colon at e)
-  | inr other ↦ elim (cases_Bool (continues_name b)) [
-    | inl goes_on ↦
-        let found : option_map suc (name_end bs) ≡ Some c = rw goes_on at (rw other at e) in
-        let place = found_suc (name_end bs) c found in
-        rw other (rw goes_on (ap (option_map suc) (name_end-more bs more place.0 place.1) ∙ ap Some (sym place.2)))
-    | inr stops ↦ absurd (let none = rw stops at (rw other at e) in cc)
-  ]
-]
-
-pub colon_of-more : (bs more : List ℕ) (c : ℕ) → colon_of bs ≡ Some c → colon_of (bs ++ more) ≡ Some c
-colon_of-more [] more c e = absurd (cc)
-colon_of-more (b ∷ bs) more c e = elim (cases_Bool (begins_name b)) [
-  | inl begins ↦
-      let found : option_map suc (name_end bs) ≡ Some c = rw begins at e in
-      let place = found_suc (name_end bs) c found in
-      rw begins (ap (option_map suc) (name_end-more bs more place.0 place.1) ∙ ap Some (sym place.2))
-  | inr other ↦ absurd (let none = rw other at e in cc)
-]
 
 colon_there : (test : ℕ → Bool) (o : Option ℕ) → option_map_or test o false ≡ true → (c : ℕ) × (o ≡ Some c)
 colon_there test None e = absurd (false≢true e)
@@ -56,25 +29,6 @@ colon_there test (Some c) e = (c, refl)
 -- a field has a colon
 pub field_colon : (bytes : List ℕ) → IsTrue (is_element Field bytes) → (c : ℕ) × (colon_of bytes ≡ Some c)
 field_colon bytes is = colon_there (λ c. is_body (drop (c + 1) bytes)) (colon_of bytes) is
-
-named_at : (bytes : List ℕ) (c : ℕ) → colon_of bytes ≡ Some c → name_of (record { kind = Field; bytes = bytes }) ≡ take c bytes
-named_at bytes c at = ap (λ o. option_map_or (λ c. take c bytes) o []) at
-
--- the name, with more after the field
-name_of-more : (kind : Kind) (bytes more : List ℕ) → IsTrue (is_element kind bytes) → name_of (record { kind = kind; bytes = bytes ++ more }) ≡ name_of (record { kind = kind; bytes = bytes })
-name_of-more Blank bytes more is = refl
-name_of-more Comment bytes more is = refl
-name_of-more Field bytes more is =
-    let colon = field_colon bytes is in
-    let within : colon.0 < length bytes = colon_is_within bytes colon.0 colon.1 in
-    named_at (bytes ++ more) colon.0 (colon_of-more bytes more colon.0 colon.1)
-    ∙ take-append-le colon.0 bytes more (omega arith) ∙ sym (named_at bytes colon.0 colon.1)
-
-pub name_of-closed : (piece : Piece) → IsElement piece → name_of (closed piece) ≡ name_of piece
-name_of-closed piece is = elim (cases_Bool (ends_newline piece.bytes)) [
-  | inl ends ↦ rw ends refl
-  | inr other ↦ rw other (name_of-more piece.kind piece.bytes (10 ∷ []) is)
-]
 
 -- ---- names of several elements
 
@@ -129,28 +83,16 @@ closing-cons : (line : List ℕ) (lines : List (List ℕ)) → SomeLine lines �
 closing-cons line [] some = absurd some
 closing-cons line (next ∷ lines) some = refl
 
-open_tail : (b : ℕ) (bs : List ℕ) → ends_newline (b ∷ bs) ≡ false → ends_newline bs ≡ false
-open_tail b [] shut = refl
-open_tail b (c ∷ bs) shut = shut
-
-not_false : (b : Bool) → b ≡ false → not b ≡ true
-not_false true e = absurd (false≢true (sym e))
-not_false false e = refl
-
-both_true : (a b : Bool) → a && b ≡ true → a ≡ true
-both_true true b e = refl
-both_true false b e = e
-
 -- a newline ends a line, where more stands after it
 more_after : (before b : ℕ) (bs : List ℕ) → (b == 10 && not (before == 92)) ≡ true → ends_newline (b ∷ bs) ≡ false → SomeLine (logical_lines b bs)
-more_after before b [] cut shut = absurd (false≢true (sym shut ∙ both_true (b == 10) (not (before == 92)) cut))
+more_after before b [] cut shut = absurd (false≢true (sym shut ∙ (and_parts (b == 10) (not (before == 92)) cut).0))
 more_after before b (c ∷ bs) cut shut = some_line b c bs
 
 logical_lines-closing : (before : ℕ) (bs : List ℕ) → ends_newline bs ≡ false → is_dangling before bs ≡ false → logical_lines before (bs ++ 10 ∷ []) ≡ closing (logical_lines before bs)
 logical_lines-closing before [] shut whole = let apart : (before == 92) ≡ false = whole in rw apart refl
 logical_lines-closing before (b ∷ bs) shut whole =
     let rest : logical_lines b (bs ++ 10 ∷ []) ≡ closing (logical_lines b bs) =
-    logical_lines-closing b bs (open_tail b bs shut) (or_parts (before == 92 && b == 10 && is_nil bs) (is_dangling b bs) whole).1 in
+    logical_lines-closing b bs (ends_newline-rest b bs shut) (or_parts (before == 92 && b == 10 && is_nil bs) (is_dangling b bs) whole).1 in
     elim (cases_Bool (b == 10 && not (before == 92))) [
       | inl cut ↦
           ap (λ t. if t then (b ∷ []) ∷ logical_lines b (bs ++ 10 ∷ []) else on_first b (logical_lines b (bs ++ 10 ∷ []))) cut
@@ -194,14 +136,14 @@ end_shut-on_first b (line ∷ next ∷ lines) some ends = ends
 
 on_first-shut : (b : ℕ) (bs : List ℕ) → ends_newline (b ∷ bs) ≡ false → is_dangling b bs ≡ false → EndShut (logical_lines b bs) → EndShut (on_first b (logical_lines b bs))
 on_first-shut b [] shut whole ends =
-    (omega arith, and_from (not (b == 10)) (not (b == 92)) (not_false (b == 10) shut) (not_false (b == 92) whole))
+    (omega arith, and_from (not (b == 10)) (not (b == 92)) (not_from_false (b == 10) shut) (not_from_false (b == 92) whole))
 on_first-shut b (c ∷ bs) shut whole ends = end_shut-on_first b (logical_lines b (c ∷ bs)) (some_line b c bs) ends
 
 logical_lines-shut : (before : ℕ) (bs : List ℕ) → ends_newline bs ≡ false → is_dangling before bs ≡ false → EndShut (logical_lines before bs)
 logical_lines-shut before [] shut whole = tt
 logical_lines-shut before (b ∷ bs) shut whole =
     let inner : is_dangling b bs ≡ false = (or_parts (before == 92 && b == 10 && is_nil bs) (is_dangling b bs) whole).1 in
-    let rest : EndShut (logical_lines b bs) = logical_lines-shut b bs (open_tail b bs shut) inner in
+    let rest : EndShut (logical_lines b bs) = logical_lines-shut b bs (ends_newline-rest b bs shut) inner in
     elim (cases_Bool (b == 10 && not (before == 92))) [
       | inl cut ↦ subst (λ t. EndShut (if t then (b ∷ []) ∷ logical_lines b bs else on_first b (logical_lines b bs))) (sym cut)
           (end_shut-cons (b ∷ []) (logical_lines b bs) (more_after before b bs cut shut) rest)
@@ -258,17 +200,8 @@ body_same : (body : List ℕ) → ends_newline body ≡ false → is_dangling 58
 body_same body shut whole =
     ap (λ l. join_with_byte 10 (lines_value l)) (logical_lines-closing 58 body shut whole) ∙ joined_same (logical_lines 58 body) (logical_lines-shut 58 body shut whole)
 
-open_drop : (k : ℕ) (bs : List ℕ) → ends_newline bs ≡ false → ends_newline (drop k bs) ≡ false
-open_drop zero bs shut = shut
-open_drop (suc k) [] shut = shut
-open_drop (suc k) (b ∷ bs) shut = open_drop k bs (open_tail b bs shut)
-
 valued_at : (bytes : List ℕ) (c : ℕ) → colon_of bytes ≡ Some c → value_of (record { kind = Field; bytes = bytes }) ≡ body_value (drop (c + 1) bytes)
 valued_at bytes c at = ap (λ o. option_map_or (λ c. body_value (drop (c + 1) bytes)) o []) at
-
-not_not : (b : Bool) → not b ≡ true → b ≡ false
-not_not true e = absurd (false≢true e)
-not_not false e = refl
 
 value_of-newline : (kind : Kind) (bytes : List ℕ) → IsTrue (is_element kind bytes) → ends_newline bytes ≡ false
     → value_of (record { kind = kind; bytes = bytes ++ 10 ∷ [] }) ≡ value_of (record { kind = kind; bytes = bytes })
@@ -280,10 +213,10 @@ value_of-newline Field bytes is shut =
     let within : c < length bytes = colon_is_within bytes c colon.1 in
     let body : is_body (drop (c + 1) bytes) ≡ true = sym (ap (λ o. option_map_or (λ c. is_body (drop (c + 1) bytes)) o false) colon.1) ∙ is in
     let whole : is_dangling 58 (drop (c + 1) bytes) ≡ false =
-    not_not (is_dangling 58 (drop (c + 1) bytes)) (and_parts (is_joined 58 (drop (c + 1) bytes)) (not (is_dangling 58 (drop (c + 1) bytes))) body).1 in
-    valued_at (bytes ++ 10 ∷ []) c (colon_of-more bytes (10 ∷ []) c colon.1)
+    not-true (is_dangling 58 (drop (c + 1) bytes)) (and_parts (is_joined 58 (drop (c + 1) bytes)) (not (is_dangling 58 (drop (c + 1) bytes))) body).1 in
+    valued_at (bytes ++ 10 ∷ []) c (colon_of-append bytes (10 ∷ []) c colon.1)
     ∙ ap body_value (drop-append-le (c + 1) bytes (10 ∷ []) (omega arith))
-    ∙ body_same (drop (c + 1) bytes) (open_drop (c + 1) bytes shut) whole
+    ∙ body_same (drop (c + 1) bytes) (ends_newline-drop (c + 1) bytes shut) whole
     ∙ sym (valued_at bytes c colon.1)
 
 pub value_of-closed : (piece : Piece) → IsElement piece → value_of (closed piece) ≡ value_of piece

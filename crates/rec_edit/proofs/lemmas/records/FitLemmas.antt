@@ -16,6 +16,7 @@ use Rattle.rec_text.proofs.lemmas.ListLemmas.{AllByRecursion-weaker, slice_get-d
 use Rattle.rec_text.proofs.lemmas.records.RangeLemmas.{LiesIn-cases, LiesIn-low, LiesIn-nil}
 use Rattle.rec_text.proofs.lemmas.records.RecordLemmas.{AreRecords-all_narrowed, field_is_full}
 use Rattle.rec_text.proofs.lemmas.records.RunLemmas.{AreRuns-runs_to}
+use Rattle.rec_text.proofs.lemmas.records.SoughtLemmas.{blank_is_not_full}
 use Rattle.rec_edit.proofs.lemmas.records.TypedRecordLemmas.{kept, up_to_field, between_fields-up_to, Spaced, closes, with_own, own_of, own_of-Spaced, from_field-map, up_to_field-map}
 use Rattle.rec_edit.proofs.lemmas.scripts.LaidLemmas.{closed-blank, closed-field}
 
@@ -51,12 +52,6 @@ drop-part xs n m ordered within =
 not-twice : (b : Bool) → b ≡ not (not b)
 not-twice true = refl
 not-twice false = refl
-
--- an element that is there is blank or not
-pub blank_or_full : (pieces : List Piece) (i : ℕ) → i < length pieces → is_blank_at pieces i ≡ not (is_full_at pieces i)
-blank_or_full [] i below = absurd (omega arith)
-blank_or_full (piece ∷ pieces) zero below = not-twice (is_blank_piece piece)
-blank_or_full (piece ∷ pieces) (suc i) below = blank_or_full pieces i (omega arith)
 
 pub full_no_blank : (pieces : List Piece) (i : ℕ) → is_full_at pieces i ≡ true → is_blank_at pieces i ≡ false
 full_no_blank [] i full = refl
@@ -128,7 +123,7 @@ module _ (pieces : List Piece) where
         let place : n + (b - n) ≡ b = omega (arith, border.low) in
         one_passes is_blank_piece (drop n (take start pieces)) (b - n)
         (passes_at-part is_blank_piece pieces n start (b - n) (omega (arith, border.low)) ∙ ap (is_blank_at pieces) place
-        ∙ blank_or_full pieces b (omega arith) ∙ ap not (border.ends (omega arith)))
+        ∙ blank_is_not_full pieces b (omega arith) ∙ ap not (border.ends (omega arith)))
     | inr past ↦ elim (cases_lt start b) [
       | inl inside ↦ absurd (false≢true (sym (border.none start low inside) ∙ field))
       | inr here ↦

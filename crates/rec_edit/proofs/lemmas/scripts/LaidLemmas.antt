@@ -1,15 +1,14 @@
--- The elements that a layout makes of those of a text, and the newlines at their ends.
+-- The elements that an edit makes of those of a text, and the newlines at their ends.
 use Rattle.std.proofs.Common.{◌≡◌, ◌∙◌, ℕ, Bool, true, false, IsTrue, List, [], ◌∷◌, ◌++◌, not, map, refl, ap, ap₂, sym, inl, inr, if◌then◌else◌}
 use Rattle.std.specs.List.{AllByRecursion}
-use Rattle.std.proofs.lemmas.Bool.{cases_Bool, false≢true, and_parts}
+use Rattle.std.proofs.lemmas.Bool.{cases_Bool, and_parts, not-true}
 use Rattle.std.proofs.lemmas.List.{append-nil, map-append}
 use Rattle.rec_text.specs.declared.element.Kind.{Kind}
 use Rattle.rec_text.specs.Bytes.{is_nil, ends_newline}
 use Rattle.rec_text.specs.Elements.{Piece, text_of}
 use Rattle.rec_text.specs.Records.{is_blank_piece, is_field_piece}
 use Rattle.rec_edit.specs.Script.{Part, closed, without_newline, opened, lacks_newline, settled, new_pieces}
-
--- ---- the elements that a layout makes of those of a text, and the newline at their end
+use Rattle.rec_edit.proofs.lemmas.scripts.WellFormedLemmas.{without_newline-push}
 
 -- ---- elements that end in a newline
 
@@ -31,11 +30,6 @@ pub ends_newline-push : (bytes : List ℕ) → ends_newline (bytes ++ 10 ∷ [])
 ends_newline-push [] = refl
 ends_newline-push (b ∷ []) = refl
 ends_newline-push (b ∷ c ∷ bytes) = ends_newline-push (c ∷ bytes)
-
-without_newline-push : (bytes : List ℕ) → without_newline (bytes ++ 10 ∷ []) ≡ bytes
-without_newline-push [] = refl
-without_newline-push (b ∷ []) = refl
-without_newline-push (b ∷ c ∷ bytes) = ap (λ bs. b ∷ bs) (without_newline-push (c ∷ bytes))
 
 abbrev pub piece_with : Kind → List ℕ → Piece
 piece_with kind bytes = record { kind = kind; bytes = bytes }
@@ -88,12 +82,8 @@ closed-settled (part ∷ next ∷ parts) all =
     ∙ ap (λ l. map closed part.new ++ l) (closed-settled (next ∷ parts) all.1)
     ∙ sym (map-append closed part.new (new_pieces (next ∷ parts)))
 
-not_true : (b : Bool) → not b ≡ true → b ≡ false
-not_true true e = absurd (false≢true e)
-not_true false e = refl
-
 pub lacking : (bytes : List ℕ) → lacks_newline bytes ≡ true → ends_newline bytes ≡ false
-lacking bytes lacks = not_true (ends_newline bytes) (and_parts (not (is_nil bytes)) (not (ends_newline bytes)) lacks).1
+lacking bytes lacks = not-true (ends_newline bytes) (and_parts (not (is_nil bytes)) (not (ends_newline bytes)) lacks).1
 
 -- ---- a kept element
 

@@ -47,11 +47,11 @@ ends_newline-at [] b bs = refl
 ends_newline-at (x ∷ []) b bs = refl
 ends_newline-at (x ∷ y ∷ prefix) b bs = ends_newline-at (y ∷ prefix) b bs
 
-ends_newline-rest : (b : ℕ) (bs : List ℕ) → ends_newline (b ∷ bs) ≡ false → ends_newline bs ≡ false
+pub ends_newline-rest : (b : ℕ) (bs : List ℕ) → ends_newline (b ∷ bs) ≡ false → ends_newline bs ≡ false
 ends_newline-rest b [] lacks = refl
 ends_newline-rest b (c ∷ bs) lacks = lacks
 
-ends_newline-drop : (n : ℕ) (bs : List ℕ) → ends_newline bs ≡ false → ends_newline (drop n bs) ≡ false
+pub ends_newline-drop : (n : ℕ) (bs : List ℕ) → ends_newline bs ≡ false → ends_newline (drop n bs) ≡ false
 ends_newline-drop n bs lacks =
     false_from_ne_true (ends_newline (drop n bs))
     (λ ends. false≢true (sym lacks ∙ ap ends_newline (sym (take-append-drop n bs)) ∙ ends_newline-append (take n bs) (drop n bs) ends))
@@ -207,7 +207,7 @@ length-comments bytes some = omega (arith, length-map (physical_lines bytes) com
 
 -- ---- a field with a plain name
 
-colon_of-name : (name rest : List ℕ) → is_plain_name name ≡ true → colon_of (name ++ 58 ∷ rest) ≡ Some (length name)
+pub colon_of-name : (name rest : List ℕ) → is_plain_name name ≡ true → colon_of (name ++ 58 ∷ rest) ≡ Some (length name)
 colon_of-name [] rest plain = absurd (false≢true plain)
 colon_of-name (x ∷ xs) rest plain =
     let parts = and_parts (is_letter x) (list_all continues_name xs) plain in
@@ -365,7 +365,7 @@ AreWhole-opened [] closed bares = AreWhole-nil
 AreWhole-opened (piece ∷ []) closed bares = record { well_formed = (bares.0, tt); lines_end = tt }
 AreWhole-opened (piece ∷ next ∷ pieces) closed bares = AreWhole-cons piece (opened (next ∷ pieces)) closed.0 (AreWhole-opened (next ∷ pieces) closed.1 bares.1)
 
--- ---- what a layout lays
+-- ---- what an edit makes of an element
 
 -- What stands instead of an element is well formed, with newlines and, where the element has none at its end, without.
 pub record CanStandFor (piece : Piece) (new : List Piece) : Type 0 where

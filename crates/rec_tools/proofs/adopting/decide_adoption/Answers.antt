@@ -1,6 +1,6 @@
 use Rattle.std.proofs.Common.{ℕ, List, IfOk, subst}
 use Rattle.rec_text.specs.Faults.{UnlessMemory}
-use Rattle.rec_tools.specs.Requests.{adopting}
+use Rattle.rec_tools.specs.Asked.{adopting}
 use Rattle.rec_tools.specs.Outcomes.{Decides}
 use Rattle.rec_tools.specs.proving.Courses.{HasCourse}
 use Rattle.rec_tools.proofs.adopting.decide_adoption.Goals as goal

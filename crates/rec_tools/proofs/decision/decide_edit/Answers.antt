@@ -1,15 +1,17 @@
 use Rattle.std.proofs.Common.{ℕ, List, IfOk, subst}
 use Rattle.rec_text.specs.Faults.{UnlessMemory}
-use Rattle.rec_tools.specs.Requests.{editing}
+use Rattle.rec_tools.specs.Asked.{editing}
 use Rattle.rec_tools.specs.Outcomes.{Decides}
 use Rattle.rec_tools.specs.proving.Courses.{HasCourse}
 use Rattle.rec_tools.specs.proving.Editing.{AreEditsFrom}
+use Rattle.rec_check.specs.DescribedTexts.{IsDescribedText}
+use Rattle.rec_tools.specs.Requests.{IsMade}
 use Rattle.rec_tools.proofs.decision.decide_edit.Goals as goal
 
 pub returns-clause-found : goal.returns-clause-found
 returns-clause-found c =
     let P : List ℕ → Type 0 =
-    λ file. UnlessMemory c.decide_on.result (Decides file c.args.journal.now (editing (AreEditsFrom c.args.source c.args.force))) in
+    λ file. UnlessMemory c.decide_on.result (Decides file c.args.journal.now (editing IsDescribedText (IsMade (AreEditsFrom c.args.source c.args.force)))) in
     subst P c.in_ok-hashed.ensures c.decide_on.ensures.found
 
 pub returns-clause-course : goal.returns-clause-course

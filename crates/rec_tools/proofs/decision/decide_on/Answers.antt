@@ -2,7 +2,8 @@ use Rattle.std.proofs.Common.{ap₂, subst, Ok, Err}
 use Rattle.rec_text.specs.Faults.{IsMemoryOr}
 use Rattle.rec_text.proofs.lemmas.ErrorLemmas.{kept_error}
 use Rattle.rec_tools.specs.declared.request.Reply.TheVariants.{Edited as EditedReply}
-use Rattle.rec_tools.specs.Outcomes.{IsMade, edit_reply}
+use Rattle.rec_tools.specs.Outcomes.{edit_reply}
+use Rattle.rec_tools.specs.Requests.{IsMade}
 use Rattle.rec_tools.specs.proving.Editing.{AreEditsFrom, HasSteps}
 use Rattle.rec_tools.proofs.lemmas.outcomes.DecideLemmas.{on_file, refused_on_file, read_file, made-no_text, made-no_opening, made-refused, made-put}
 use Rattle.rec_tools.proofs.decision.decide_on.Goals as goal

@@ -2,7 +2,8 @@ use Rattle.std.proofs.Common.{ap₂, subst, Ok, Err}
 use Rattle.rec_text.specs.Faults.{IsMemoryOr}
 use Rattle.rec_text.proofs.lemmas.ErrorLemmas.{kept_error}
 use Rattle.rec_tools.specs.declared.request.Reply.TheVariants.{Written}
-use Rattle.rec_tools.specs.Outcomes.{IsWritten, write_reply}
+use Rattle.rec_tools.specs.Outcomes.{write_reply}
+use Rattle.rec_tools.specs.Writing.{IsWritten}
 use Rattle.rec_tools.proofs.lemmas.outcomes.DecideLemmas.{put-no_opening, put-refused, put-made}
 use Rattle.rec_tools.proofs.decision.decide_write_on.Goals as goal
 

@@ -1,5 +1,5 @@
 -- What a request does at each of its exits, from the calls that were made and what went out.
-use Rattle.std.proofs.Common.{◌≡◌, ◌⊎◌, inl, inr, ℕ, List, [], ◌∷◌, ◌++◌, take, Option, Result, Ok, Err, ap, ap₂, sym, subst, refl, ◌∙◌, append-nil}
+use Rattle.std.proofs.Common.{◌≡◌, ◌⊎◌, inl, inr, ℕ, List, [], ◌∷◌, ◌++◌, take, Option, Result, Ok, Err, ap, sym, subst, refl, ◌∙◌, append-nil}
 use Rattle.std.specs.Prelude.{IsErrOf}
 use Rattle.std.specs.Io.KnownBytes.{Appends}
 use Rattle.std.proofs.KnownBytes.{Appends-nil, Appends-kept}
@@ -7,13 +7,14 @@ use Rattle.rec_text.specs.declared.fault.Fault.{Fault}
 use Rattle.rec_text.specs.declared.fault.Fault.TheVariants.{OutOfMemory, StoreFailed}
 use Rattle.rec_text.specs.Faults.{IsMemoryOr}
 use Rattle.rec_text.specs.Sink.{HasRisen}
+use Rattle.rec_journal.specs.History.{Opened}
 use Rattle.rec_select.specs.Taken.{PrintsAndCounts}
 use Rattle.rec_tools.specs.declared.decision.Decision.{Decision}
 use Rattle.rec_tools.specs.declared.decision.Decision.TheVariants.{Stay, Put, Adopt}
 use Rattle.rec_tools.specs.declared.home.Which.TheVariants.{Base as TheFile, Journal as TheJournal}
 use Rattle.rec_tools.specs.Home.{Contents, Write, Call, got, TellAll, Went}
-use Rattle.rec_tools.specs.Printouts.{Printout, Printed, PutsPrintout, WentOut, IsSilence, IsShownText, IsHistory, printed_history}
-use Rattle.rec_tools.specs.Requests.{Asked, looking, listing, showing, listing_changes, changing, previewing, reads_of}
+use Rattle.rec_tools.specs.Printouts.{Printed, PutsPrintout, WentOut, IsSilence, IsHistory, printed_history, history_reply}
+use Rattle.rec_tools.specs.Asked.{Printout, Asked, looking, listing, showing, listing_changes, changing, previewing, reads_of}
 use Rattle.rec_tools.specs.Outcomes.{Outcome, printing, outcome_of, IsPrinting, IsRequestOutcome}
 use Rattle.rec_tools.specs.proving.Silently.{ByCalls, DoesSilently}
 use Rattle.rec_tools.specs.Attempts.{Answer, gots, puts, IsPrefix, StopsReading, StopsWriting, IsAnswered, Does, Attempts}
@@ -154,14 +155,17 @@ module _ (asked : Asked) (calls : List Call) (Tells : Contents → Type 0) (IsTe
         }))),
   )
 
+abbrev listed : Opened → Printout
+listed o = record { text = printed_history o; reply = history_reply o }
+
 -- the history that is printed of a file and its journal is the outcome that is asked for
-pub listed-outcome : (file journal : List ℕ) (r : Result Outcome Fault) → IsPrinting (IsShownText (IsHistory file journal)) r
+pub listed-outcome : (file journal : List ℕ) (r : Result Outcome Fault) → IsPrinting (IsHistory file journal) r
     → IsRequestOutcome (record { file = file; journal = journal }) listing r
-listed-outcome file journal (Ok outcome) (p, (inl (fault, refused, e), shown), is) = ok_is_no_err p.text fault _ (sym e)
-listed-outcome file journal (Ok outcome) (p, (inr (o, opens, e), shown), is) =
-    inr (o, opens, ap Ok (is ∙ ap₂ printing (same_value p.text (printed_history o) e) shown))
+listed-outcome file journal (Ok outcome) (p, inl (fault, refused, e), is) = ok_is_no_err p fault _ (sym e)
+listed-outcome file journal (Ok outcome) (p, inr (o, opens, e), is) =
+    inr (o, opens, ap Ok (is ∙ ap (λ (x : Printout). printing x.text x.reply) (same_value p (listed o) e)))
 listed-outcome file journal (Err fault) (inl (other, refused, e)) = inl (other, refused, ap Err (same_fault fault other e))
-listed-outcome file journal (Err fault) (inr (o, opens, e)) = ok_is_no_err (printed_history o) fault _ e
+listed-outcome file journal (Err fault) (inr (o, opens, e)) = ok_is_no_err (listed o) fault _ e
 
 -- ---- a decision on both contents
 

@@ -8,7 +8,8 @@ use Rattle.rec_journal.specs.Forgetting.{numbered_from, numbered_edit, past_left
 use Rattle.rec_journal.specs.History.{Opened, Opens}
 use Rattle.rec_journal.specs.Revisions.{Leads}
 use Rattle.rec_tools.specs.Home.{Contents}
-use Rattle.rec_tools.specs.Machine.{Entry, State, AreEntries, Stands, numbered_entry, state_after_forgetting}
+use Rattle.rec_tools.specs.Stands.{AreEntries, Stands}
+use Rattle.rec_tools.specs.States.{Entry, State, numbered_entry, state_after_forgetting}
 use Rattle.rec_tools.proofs.lemmas.machine.StandsLemmas.{StandsBy}
 
 -- ---- numbers from the last on

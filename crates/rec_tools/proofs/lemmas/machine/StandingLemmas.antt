@@ -1,12 +1,11 @@
 -- The edit that a revert takes back is that of the machine, with the later ones.
-use Rattle.std.proofs.Common.{◌≡◌, ◌≢◌, inl, inr, ℕ, Bool, true, false, List, [], ◌∷◌, ◌++◌, map, reverse, append_assoc, append-nil, Option, Some, None, Result, Ok, Err}
-use Rattle.std.proofs.Common.{sym, ap, ap₂, subst, refl, ◌∙◌}
+use Rattle.std.proofs.Common.{◌≡◌, ◌≢◌, inl, inr, ℕ, Bool, true, false, List, [], ◌∷◌, ◌++◌, map, reverse, append_assoc, append-nil, Option, Some, None, Result, Ok, Err, sym, ap, ap₂, subst}
+use Rattle.std.proofs.Common.{refl, ◌∙◌}
 use Rattle.std.specs.Prelude.{◌==◌, bytes_eq, if◌then◌else◌}
 use Rattle.std.specs.List.{AllByRecursion}
 use Rattle.std.proofs.lemmas.Bool.{false≢true, cases_Bool, eqb-true, eqb-false}
 use Rattle.std.proofs.lemmas.List.{reverse-append}
 use Rattle.rec_text.specs.declared.fault.Fault.{Fault}
-use Rattle.rec_text.specs.declared.fault.Fault.TheVariants.{NoSuchEdit}
 use Rattle.rec_text.proofs.lemmas.FaultLemmas.{no_both, same_value}
 use Rattle.rec_text.proofs.lemmas.ListLemmas.{AllByRecursion-append, AllByRecursion-following}
 use Rattle.rec_journal.specs.declared.event.EditStep.{EditStep}
@@ -22,8 +21,11 @@ use Rattle.rec_journal.proofs.lemmas.texts.OverLemmas.{LeadOver-append}
 use Rattle.rec_journal.proofs.lemmas.texts.StandingLemmas.{one_standing_edit}
 use Rattle.rec_edit.specs.declared.answer.Edited.{Edited}
 use Rattle.rec_tools.specs.Home.{Contents}
-use Rattle.rec_tools.specs.Machine.{Entry, State, AreEntries, IsRevertIn, standing_at, standing_in, told_back}
-use Rattle.rec_tools.specs.Reverting.{Standing, IsReverted, IsRevertOf, standing_of}
+use Rattle.rec_tools.specs.Machine.{IsRevertIn}
+use Rattle.rec_tools.specs.Stands.{AreEntries}
+use Rattle.rec_tools.specs.States.{Entry, State, standing_at, standing_in, told_back}
+use Rattle.rec_tools.specs.Reverting.{IsRevertOf, standing_of}
+use Rattle.rec_tools.specs.Asked.{Standing, Reversal}
 use Rattle.rec_tools.proofs.lemmas.machine.StandsLemmas.{StandsBy}
 
 abbrev steps_of_each : List Revision → List (List EditStep)
@@ -107,8 +109,8 @@ module _ (o : Opened) (c : Contents) (s : State) (by : StandsBy o c s) (opens : 
       (AllByRecursion-following (λ (e : Revision). e.number ≢ number) way.nearer (way.edit ∷ way.farther)
       (subst (AllByRecursion (λ (e : Revision). e.number ≢ number)) there none)).0 to.to.for
 
-  module _ (force : Bool) where
-    goes : (found : Option Standing) → FoundAs found → (r : Result (Tool × Edited) Fault) → IsRevertOf number force o c.file r → IsRevertIn force s.present found r
+  module _ (Reverts : Reversal) where
+    goes : (found : Option Standing) → FoundAs found → (r : Result (Tool × Edited) Fault) → IsRevertOf number Reverts o c.file r → IsRevertIn Reverts s.present found r
     goes None none r (inl (fault, inl (drifted, inl yes_it_is), e)) = absurd (false≢true (sym by.settled ∙ yes_it_is))
     goes None none r (inl (fault, inl (drifted, inr (settled, (way, to, nothing))), e)) = absurd (no_way none way to)
     goes None none r (inl (fault, inr (is, settled, never), e)) = e ∙ ap Err is
@@ -116,8 +118,8 @@ module _ (o : Opened) (c : Contents) (s : State) (by : StandsBy o c s) (opens : 
     goes (Some e) f r (inl (fault, refused, k)) = absurd (no_both f.found fault (one_standing_edit c.file c.journal o number opens (Ok f.found) (Err fault) f.is refused))
     goes (Some e) f r (inr (found, is, h)) =
         let same = same_value found f.found (one_standing_edit c.file c.journal o number opens (Ok found) (Ok f.found) is f.is) in
-        subst (λ t. IsReverted force t e r) (sym by.present) (subst (λ x. IsReverted force c.file x r) (ap standing_of same ∙ f.same) h)
+        subst (λ t. Reverts t e r) (sym by.present) (subst (λ x. Reverts c.file x r) (ap standing_of same ∙ f.same) h)
 
     -- what a revert makes of the file it makes of the state's text
-    pub reverts_alike : (r : Result (Tool × Edited) Fault) → IsRevertOf number force o c.file r → IsRevertIn force s.present (standing_at number s) r
+    pub reverts_alike : (r : Result (Tool × Edited) Fault) → IsRevertOf number Reverts o c.file r → IsRevertIn Reverts s.present (standing_at number s) r
     reverts_alike r is = goes (standing_at number s) found_as r is

@@ -14,7 +14,8 @@ use Rattle.rec_journal.proofs.lemmas.histories.Openings.{one_opening}
 use Rattle.rec_journal.proofs.lemmas.patches.StepLemmas.{edits_lead_to_one_text}
 use Rattle.rec_tools.specs.Home.{Contents}
 use Rattle.rec_tools.specs.Laws.{OneState, FirstStands}
-use Rattle.rec_tools.specs.Machine.{Entry, State, AreEntries, Stands}
+use Rattle.rec_tools.specs.Stands.{AreEntries, Stands}
+use Rattle.rec_tools.specs.States.{Entry, State}
 
 -- ---- contents that stand for a state, by a history that is known
 

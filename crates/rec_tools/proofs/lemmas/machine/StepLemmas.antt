@@ -1,5 +1,5 @@
 -- What a request comes to on contents that stand for a state is what the machine does in that state.
-use Rattle.std.proofs.Common.{arith, ◌≡◌, ◌≢◌, ◌⊎◌, inl, inr, ℕ, ◌+◌, ◌-◌, ◌<◌, Bool, List, [], ◌∷◌, length, map, Option, None, Result, Ok, Err, sym, ap, ap₂, subst, refl, ◌∙◌}
+use Rattle.std.proofs.Common.{◌≡◌, ◌≢◌, ◌⊎◌, inl, inr, ℕ, ◌+◌, ◌-◌, ◌<◌, Bool, List, [], ◌∷◌, length, map, Option, None, Result, Ok, Err, sym, ap, ap₂, subst, refl, ◌∙◌}
 use Rattle.std.proofs.lemmas.Bool.{false≢true}
 use Rattle.std.specs.Prelude.{true, false, codes, if◌then◌else◌}
 use Rattle.rec_text.specs.declared.fault.Fault.{Fault}
@@ -13,23 +13,24 @@ use Rattle.rec_journal.specs.History.{Opened, Opens, IsOpening, lost_edits}
 use Rattle.rec_journal.specs.Revisions.{Leads}
 use Rattle.rec_journal.specs.Plans.{ShareDigest, edit_to, after_edit_plan, edits_on, after_move, LeadsNowhere}
 use Rattle.rec_journal.specs.Numbers.{numbers_on, is_missing}
-use Rattle.rec_journal.proofs.lemmas.histories.Openings.{one_opening}
 use Rattle.rec_journal.proofs.lemmas.patches.StepLemmas.{edits_lead_to_one_text}
-use Rattle.rec_check.specs.DescribedTexts.{IsDescribedText}
 use Rattle.rec_edit.specs.declared.answer.Edited.{Edited}
 use Rattle.rec_tools.specs.declared.request.Reply.{Reply}
-use Rattle.rec_tools.specs.declared.request.Reply.TheVariants.{Shown, Edited as EditedReply, Unchanged, Reverted, Forgotten, Written}
+use Rattle.rec_tools.specs.declared.request.Reply.TheVariants.{Shown, Drifted as HasDrifted, Edited as EditedReply, Unchanged, Reverted, Forgotten, Written}
 use Rattle.rec_tools.specs.Home.{Contents}
 use Rattle.rec_tools.specs.Steps.{Then}
-use Rattle.rec_tools.specs.Printouts.{Printout, history_text, printed_history}
-use Rattle.rec_tools.specs.Requests.{Edits, AskedChange, editing, moving, reverting, forgetting, adopting, writing, Asked, looking, listing, showing, listing_changes, changing, previewing, asked_of}
+use Rattle.rec_tools.specs.Printouts.{history_text, printed_history, history_reply}
+use Rattle.rec_tools.specs.Asked.{Printout, AskedChange, editing, moving, reverting, forgetting, adopting, writing, Asked, looking, listing, showing, listing_changes, changing, previewing}
+use Rattle.rec_tools.specs.Asked.{Making, Reading, Reversal}
+use Rattle.rec_tools.specs.Requests.{asked_of}
 use Rattle.rec_tools.specs.Reverting.{IsRevertOf}
-use Rattle.rec_tools.specs.Outcomes.{Outcome, IsChangeOutcome, IsRequestOutcome, IsPrinting, IsMade, IsWritten, IsEditOutcome, IsPutOn, IsPutBy, IsPlanned}
-use Rattle.rec_tools.specs.Outcomes.{IsMove, IsMoveOutcome, IsLetGo, IsForgetting, Forgets, IsAdoption, edit_reply, revert_reply, write_reply, printing, staying, putting, reply_of}
-use Rattle.rec_tools.specs.Machine.{Entry, State, AreEntries, Stands, IsChangeStep, IsPutStep, IsMadeStep, IsRevertIn, IsMoveStep, Clashes, standing_at, entries_on, numbers_in}
-use Rattle.rec_tools.specs.Machine.{state_history, state_after_edit, state_after_move, state_after_forgetting, lost_entries}
+use Rattle.rec_tools.specs.Outcomes.{Outcome, IsChangeOutcome, IsRequestOutcome, IsPrinting, IsEditOutcome, IsPutOn, IsPutBy, IsPlanned, IsMove, IsMoveOutcome, IsLetGo, IsForgetting}
+use Rattle.rec_tools.specs.Outcomes.{Forgets, IsAdoption, edit_reply, revert_reply, write_reply, printing, staying, putting, reply_of}
+use Rattle.rec_tools.specs.Machine.{IsChangeStep, IsPutStep, IsMadeStep, IsRevertIn, IsMoveStep}
+use Rattle.rec_tools.specs.Stands.{AreEntries, Stands}
+use Rattle.rec_tools.specs.Answers.{Clashes}
+use Rattle.rec_tools.specs.States.{Entry, State, standing_at, entries_on, numbers_in, state_history, state_after_edit, state_after_move, state_after_forgetting, lost_entries}
 use Rattle.rec_tools.specs.Guarantee.{StepsAsMachine, OutcomesAreSteps}
-use Rattle.rec_text.proofs.lemmas.FaultLemmas.{ok_is_no_err}
 use Rattle.rec_tools.proofs.lemmas.machine.StandsLemmas.{StandsBy, stands_by, can_be_opened}
 use Rattle.rec_tools.specs.Attempts.{Answer}
 use Rattle.rec_tools.proofs.lemmas.machine.StandingLemmas.{reverts_alike}
@@ -171,15 +172,16 @@ module _ (c : Contents) (s : State) (stands : Stands c s) where
       ∙ ap₂ history_text (printed_alike Backward o.past s.past c.file by.past) (printed_alike Forward o.future s.future c.file by.future)
 
   lists_step : (r : Result Outcome Fault)
-      → Then (IsOpening c.file c.journal) (λ o given. given ≡ Ok (printing (printed_history o) Shown)) r → StepsAsMachine c s listing r
+      → Then (IsOpening c.file c.journal) (λ o given. given ≡ Ok (printing (printed_history o) (history_reply o))) r → StepsAsMachine c s listing r
   lists_step r (inl (fault, refused, e)) = absurd (no_refusal fault refused)
   lists_step r (inr (o, opens, e)) =
-      subst (λ x. StepsAsMachine c s listing x) (sym e) (s, (refl, printed_as_listed o (by_opening o opens), refl), stands)
+      subst (λ x. StepsAsMachine c s listing x) (sym e)
+      (s, (ap (λ b. Ok (if b then HasDrifted else Shown)) (by_opening o opens).settled, printed_as_listed o (by_opening o opens), refl), stands)
 
   -- ---- an edit
 
-  read_present : {A : Type 0} (next : Result A Fault → Type 0) (r : Result A Fault) → Then (IsDescribedText c.file) (λ _. next) r → Then (IsDescribedText s.present) (λ _. next) r
-  read_present next r is = subst (λ text. Then (IsDescribedText text) (λ _. next) r) (sym stands.present) is
+  read_present : {A X : Type 0} (Reads : Reading X) (next : Result A Fault → Type 0) (r : Result A Fault) → Then (Reads c.file) (λ _. next) r → Then (Reads s.present) (λ _. next) r
+  read_present Reads next r is = subst (λ text. Then (Reads text) (λ _. next) r) (sym stands.present) is
 
   -- where a change is a step by what is made of the state's text
   module _ (change : AskedChange) (Makes : Result (Tool × Edited) Fault → Type 0) (reply_for : Tool → Edited → Reply)
@@ -248,45 +250,46 @@ module _ (c : Contents) (s : State) (stands : Stands c s) where
       put_step r (inr (o, opens, inr ((tool, made), done, last))) =
           edit_steps tool made (goes o opens (Ok (tool, made)) done) o (replies o tool made) (alike o opens tool made) r opens last
 
-  -- the same of a text that reads
-  module _ (change : AskedChange) (Makes : Result (Tool × Edited) Fault → Type 0) (reply_for : Tool → Edited → Reply)
-      (steps : (answer : Answer) (t : State) → IsMadeStep s reply_for Makes answer t → IsChangeStep s change answer t)
+  -- the same of a text that can be read
+  module _ {X : Type 0} (change : AskedChange) (Reads : Reading X) (Makes : Result (Tool × Edited) Fault → Type 0) (reply_for : Tool → Edited → Reply)
+      (steps : (answer : Answer) (t : State) → IsMadeStep s Reads reply_for Makes answer t → IsChangeStep s change answer t)
       (MakesOf : Opened → Result (Tool × Edited) Fault → Type 0) (replies : Opened → Tool → Edited → Reply)
       (goes : (o : Opened) → Opens c.file c.journal o → (r : Result (Tool × Edited) Fault) → MakesOf o r → Makes r)
       (alike : (o : Opened) → Opens c.file c.journal o → (tool : Tool) (made : Edited) → replies o tool made ≡ reply_for tool made) where
     abbrev MakesRead : Result (Tool × Edited) Fault → Type 0
-    MakesRead = Then (IsDescribedText s.present) (λ _. Makes)
+    MakesRead = Then (Reads s.present) (λ _. Makes)
 
-    made_step : (r : Result Outcome Fault) → IsPutBy MakesOf replies c r → StepsAsMachine c s (changing change) r
+    made_step : (r : Result Outcome Fault) → IsPutBy Reads MakesOf replies c r → StepsAsMachine c s (changing change) r
     made_step r (inl (fault, refused, e)) =
         subst (λ x. StepsAsMachine c s (changing change) x) (sym e)
-        (made_refused change MakesRead reply_for steps fault (read_present Makes (Err fault) (inl (fault, refused, refl))))
+        (made_refused change MakesRead reply_for steps fault (read_present Reads Makes (Err fault) (inl (fault, refused, refl))))
     made_step r (inr (text, is, put)) =
         put_step change MakesRead reply_for steps MakesOf replies
-        (λ o opens told h. read_present Makes told (inr (text, is, goes o opens told h))) alike r put
+        (λ o opens told h. read_present Reads Makes told (inr (text, is, goes o opens told h))) alike r put
 
-  edits_step : (IsEdit : Result Edits Fault → Type 0) (r : Result Outcome Fault) → IsChangeOutcome c (editing IsEdit) r → StepsAsMachine c s (changing (editing IsEdit)) r
-  edits_step IsEdit r is =
-      made_step (editing IsEdit) (IsMade IsEdit s.present) (edit_reply s.next 0) (λ answer t h. h)
-      (λ _. IsMade IsEdit c.file) (λ o. edit_reply o.next o.dropped)
-      (λ o opens made h. subst (λ text. IsMade IsEdit text made) (sym stands.present) h)
+  edits_step : {X : Type 0} (Reads : Reading X) (Makes : Making) (r : Result Outcome Fault) → IsChangeOutcome c (editing Reads Makes) r
+      → StepsAsMachine c s (changing (editing Reads Makes)) r
+  edits_step Reads Makes r is =
+      made_step (editing Reads Makes) Reads (Makes s.present) (edit_reply s.next 0) (λ answer t h. h)
+      (λ _. Makes c.file) (λ o. edit_reply o.next o.dropped)
+      (λ o opens made h. subst (λ text. Makes text made) (sym stands.present) h)
       (λ o opens tool made. (let by = by_opening o opens in ap₂ (EditedReply made.changed) (sym by.next) by.none_dropped)) r is
 
-  reverts_step : (number : ℕ) (force : Bool) (r : Result Outcome Fault) → IsChangeOutcome c (reverting number force) r → StepsAsMachine c s (changing (reverting number force)) r
-  reverts_step number force r is =
-      made_step (reverting number force) (IsRevertIn force s.present (standing_at number s)) (revert_reply number s.next) (λ answer t h. h)
-      (λ o. IsRevertOf number force o c.file) (λ o. revert_reply number o.next)
-      (λ o opens made h. reverts_alike o c s (by_opening o opens) opens number force made h)
+  reverts_step : {X : Type 0} (Reads : Reading X) (number : ℕ) (Reverts : Reversal) (r : Result Outcome Fault) → IsChangeOutcome c (reverting Reads number Reverts) r
+      → StepsAsMachine c s (changing (reverting Reads number Reverts)) r
+  reverts_step Reads number Reverts r is =
+      made_step (reverting Reads number Reverts) Reads (IsRevertIn Reverts s.present (standing_at number s)) (revert_reply number s.next) (λ answer t h. h)
+      (λ o. IsRevertOf number Reverts o c.file) (λ o. revert_reply number o.next)
+      (λ o opens made h. reverts_alike o c s (by_opening o opens) opens number Reverts made h)
       (λ o opens tool made. ap (Reverted number tool) (sym (by_opening o opens).next)) r is
 
   -- ---- a whole text
 
-  writes_step : (force : Bool) (over : Option (List ℕ)) (text : List ℕ) (r : Result Outcome Fault) → IsChangeOutcome c (writing force over text) r
-      → StepsAsMachine c s (changing (writing force over text)) r
-  writes_step force over text r is =
-      put_step (writing force over text) (IsWritten force over text s.present) (write_reply s.next 0) (λ answer t h. h)
-      (λ _. IsWritten force over text c.file) (λ o. write_reply o.next o.dropped)
-      (λ o opens told h. subst (λ here. IsWritten force over text here told) (sym stands.present) h)
+  writes_step : (Makes : Making) (r : Result Outcome Fault) → IsChangeOutcome c (writing Makes) r → StepsAsMachine c s (changing (writing Makes)) r
+  writes_step Makes r is =
+      put_step (writing Makes) (Makes s.present) (write_reply s.next 0) (λ answer t h. h)
+      (λ _. Makes c.file) (λ o. write_reply o.next o.dropped)
+      (λ o opens told h. subst (λ here. Makes here told) (sym stands.present) h)
       (λ o opens tool made. (let by = by_opening o opens in ap₂ Written (sym by.next) by.none_dropped)) r is
 
   -- ---- a move
@@ -413,22 +416,22 @@ module _ (c : Contents) (s : State) (stands : Stands c s) where
 -- whatever a change comes to on contents that stand for a state, the machine steps so
 pub changes_are_steps : (c : Contents) (s : State) (change : AskedChange) (r : Result Outcome Fault)
     → Stands c s → IsChangeOutcome c change r → StepsAsMachine c s (changing change) r
-changes_are_steps c s (editing IsEdit) r stands is = edits_step c s stands IsEdit r is
+changes_are_steps c s (editing Reads Makes) r stands is = edits_step c s stands Reads Makes r is
 changes_are_steps c s (moving direction through) r stands is = moves_step c s stands direction through r is
-changes_are_steps c s (reverting number force) r stands is = reverts_step c s stands number force r is
+changes_are_steps c s (reverting Reads number Reverts) r stands is = reverts_step c s stands Reads number Reverts r is
 changes_are_steps c s (forgetting n dropping) r stands is = forgets_step c s stands n dropping r is
 changes_are_steps c s (adopting old) r stands is = adopts_step c s stands old r is
-changes_are_steps c s (writing force over text) r stands is = writes_step c s stands force over text r is
+changes_are_steps c s (writing Makes) r stands is = writes_step c s stands Makes r is
 
 -- and so it does for all that is asked for
 pub outcomes_are_steps : (c : Contents) (s : State) (asked : Asked) (r : Result Outcome Fault)
     → Stands c s → IsRequestOutcome c asked r → StepsAsMachine c s asked r
 outcomes_are_steps c s (looking IsText) r stands is = looks_step c s stands IsText r is
 outcomes_are_steps c s listing r stands is = lists_step c s stands r is
-outcomes_are_steps c s (showing number style) r stands is = shows_step c s stands number style r is
-outcomes_are_steps c s (listing_changes style) r stands is = logs_step c s stands style r is
+outcomes_are_steps c s (showing number Tells) r stands is = shows_step c s stands number Tells r is
+outcomes_are_steps c s (listing_changes Tells) r stands is = logs_step c s stands Tells r is
 outcomes_are_steps c s (changing change) r stands is = changes_are_steps c s change r stands is
-outcomes_are_steps c s (previewing style change) r stands is = previews_step c s stands style change (from_here c s stands change) (λ r is. changes_are_steps c s change r stands is) r is
+outcomes_are_steps c s (previewing Tells change) r stands is = previews_step c s stands Tells change (from_here c s stands change) (λ r is. changes_are_steps c s change r stands is) r is
 
 pub of_requests : OutcomesAreSteps
 of_requests c s request r stands is = outcomes_are_steps c s (asked_of request) r stands is

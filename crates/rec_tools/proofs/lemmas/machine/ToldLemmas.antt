@@ -20,7 +20,8 @@ use Rattle.rec_journal.proofs.lemmas.texts.AllLemmas.{one_list_of_texts}
 use Rattle.rec_journal.proofs.lemmas.texts.WayLemmas.{one_edit_texts}
 use Rattle.rec_tools.specs.Home.{Contents}
 use Rattle.rec_tools.specs.Printouts.{Told, told_of}
-use Rattle.rec_tools.specs.Machine.{Entry, State, AreEntries, told_back, told_on, told_in, told_edit, entries_on}
+use Rattle.rec_tools.specs.Stands.{AreEntries}
+use Rattle.rec_tools.specs.States.{Entry, State, told_back, told_on, told_in, told_edit, entries_on}
 use Rattle.rec_text.proofs.lemmas.FaultLemmas.{same_value}
 use Rattle.rec_text.proofs.lemmas.ListLemmas.{AllByRecursion-prefix, AllByRecursion-following}
 use Rattle.rec_journal.proofs.lemmas.plans.ReplayLemmas.{AllByRecursion-reverse}

@@ -26,8 +26,9 @@ use Rattle.rec_tools.specs.declared.decision.Decision.TheVariants.{Adopt}
 use Rattle.rec_tools.specs.declared.request.Reply.{Reply}
 use Rattle.rec_tools.specs.declared.request.Reply.TheVariants.{Adopted, Unchanged}
 use Rattle.rec_tools.specs.Home.{Contents}
-use Rattle.rec_tools.specs.Requests.{adopting}
-use Rattle.rec_tools.specs.Outcomes.{Outcome, IsAdoption, IsEndFor, Adopts, IsChangeOutcome, Decides, edited_by_lines, leading, staying}
+use Rattle.rec_tools.specs.Asked.{adopting}
+use Rattle.rec_tools.specs.Outcomes.{Outcome, IsAdoption, IsEndFor, Adopts, IsChangeOutcome, Decides, leading, staying}
+use Rattle.rec_tools.specs.Writing.{edited_by_lines}
 use Rattle.rec_tools.specs.proving.Adopting.{AdoptsTo, AdoptsFrom}
 use Rattle.rec_tools.specs.proving.Courses.{contents, HasCourse}
 use Rattle.rec_tools.proofs.lemmas.outcomes.OpeningLemmas.{same_plan_of}

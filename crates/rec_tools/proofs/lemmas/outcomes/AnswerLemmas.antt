@@ -14,7 +14,6 @@ use Rattle.rec_check.specs.declared.set.Set_.{Set_}
 use Rattle.rec_check.specs.Schemas.{Described, IsSchema}
 use Rattle.rec_check.specs.DescribedTexts.{DescribedText, AreDescribed, IsDescribedText}
 use Rattle.rec_check.proofs.lemmas.laws.SameLemmas.{one_schema}
-use Rattle.rec_select.specs.FieldValues.{field_value_of}
 use Rattle.rec_select.specs.Selection.{Filter, all as all_members, at_places, with_text, with_value, Passes, IsSelection}
 use Rattle.rec_edit.specs.Outcome.{allowed}
 use Rattle.rec_tools.specs.declared.request.Ask.{Ask}
@@ -22,8 +21,8 @@ use Rattle.rec_tools.specs.declared.request.Ask.TheVariants.{All, Expr, Index, Q
 use Rattle.rec_tools.specs.Steps.{Then}
 use Rattle.rec_tools.specs.Asking.{IsExpressionFilter, IsIndexFilter, IsValueFilter, IsFilter}
 use Rattle.rec_text.proofs.lemmas.FaultLemmas.{no_both, same_fault, same_value}
-use Rattle.rec_text.proofs.lemmas.StepLemmas.{AgreeBut, HasOneBut, HasOneBut-of, AgreeLike, AgreeBut-like, HasOneBut-Then, Then-parts, Then-value, Then-next}
-use Rattle.rec_check.proofs.lemmas.laws.AlikeLemmas.{SameSchemas, AgreeLike-schema}
+use Rattle.rec_text.proofs.lemmas.StepLemmas.{AgreeBut, HasOneBut, HasOneBut-of, AreLike, AgreeLike, AgreeBut-like, HasOneBut-Then, Then-parts, Then-value, Then-next}
+use Rattle.rec_check.proofs.lemmas.laws.AlikeLemmas.{SameSchemas, SameTexts, AgreeLike-schema, AgreeLike-described}
 
 -- ---- the filter that is asked for
 
@@ -160,9 +159,26 @@ HasOneBut-text file next agree one other is is_too =
     (λ pieces _. HasOneBut-elements pieces next (agree pieces)) one other
     (Then-parts (IsReading file) AreDescribed next one is) (Then-parts (IsReading file) AreDescribed next other is_too)
 
--- a step that doesn't ask for what was read of a text has one answer after it
+-- a text can be read, or there is one reason why it can't, a refused pattern aside
+abbrev pub ReadsOne : {X : Type 0} → (Result X Fault → Type 0) → Type 0
+ReadsOne Reads = AgreeLike (λ _ _. Unit {0}) Reads Reads
+
+like_any : {A : Type 0} (R : A → A → Type 0) (one other : Result A Fault) → AreLike R one other → AreLike (λ _ _. Unit {0}) one other
+like_any R (Ok a) (Ok b) alike = tt
+like_any R (Ok a) (Err fault) alike = absurd alike
+like_any R (Err fault) (Ok b) alike = absurd alike
+like_any R (Err fault) (Err other) same = same
+
+pub ReadsOne-text : (text : List ℕ) → ReadsOne (IsDescribedText text)
+ReadsOne-text text one other is is_too built built_too = like_any SameTexts one other (AgreeLike-described text one other is is_too built built_too)
+
+-- a step that doesn't ask for what was read has one answer after it
+pub HasOneBut-after : {X A : Type 0} (first : Result X Fault → Type 0) (step : Result A Fault → Type 0) → ReadsOne first → HasOneBut step
+    → HasOneBut (Then first (λ _. step))
+HasOneBut-after first step reads has_one = AgreeBut-like (λ _ _. Unit {0}) first first (λ _. step) (λ _. step) reads (λ a b _ _ _. has_one)
+
 pub HasOneBut-once_read : {A : Type 0} (file : List ℕ) (step : Result A Fault → Type 0) → HasOneBut step → HasOneBut (Then (IsDescribedText file) (λ _. step))
-HasOneBut-once_read file step has_one = HasOneBut-text file (λ _. step) (λ pieces schema same is is_too. has_one)
+HasOneBut-once_read file step has_one = HasOneBut-after (IsDescribedText file) step (ReadsOne-text file) has_one
 
 -- a step that asks of the schema only its sets gives the same for each schema of the elements
 pub agree_by_sets : {B : Type 0} (next : List Piece → List Set_ → Result B Fault → Type 0)

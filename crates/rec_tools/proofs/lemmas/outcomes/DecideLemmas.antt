@@ -34,9 +34,10 @@ use Rattle.rec_tools.specs.declared.request.Reply.{Reply}
 use Rattle.rec_tools.specs.Home.{Contents}
 use Rattle.rec_tools.specs.Steps.{Then}
 use Rattle.rec_tools.specs.Batches.{AreEdits}
-use Rattle.rec_tools.specs.Requests.{moving, IsTaskOf, AreTasks, IsOneEdit, IsBatch}
+use Rattle.rec_tools.specs.Requests.{IsTaskOf, AreTasks, IsOneEdit, IsBatch, IsMade}
+use Rattle.rec_tools.specs.Asked.{moving}
 use Rattle.rec_tools.specs.Making.{AreMade}
-use Rattle.rec_tools.specs.Outcomes.{Outcome, IsMade, IsEditOutcome, IsPutOn, IsPutBy, IsChangeOutcome, OnTop, putting, outcome_of, outcome_in, reply_of}
+use Rattle.rec_tools.specs.Outcomes.{Outcome, IsEditOutcome, IsPutOn, IsPutBy, IsChangeOutcome, OnTop, putting, outcome_of, outcome_in, reply_of}
 use Rattle.rec_tools.specs.proving.Courses.{HasCourse}
 use Rattle.rec_tools.specs.proving.Editing.{HasSteps}
 use Rattle.rec_text.proofs.lemmas.FaultLemmas.{memory_or_weaker, no_both, ok_is_no_err, same_fault, same_value}
@@ -215,24 +216,24 @@ module _ (file journal : List ℕ) (MakesOf : Opened → Result (Tool × Edited)
 
   -- of a file that reads
 
-  pub made-no_text : (fault : Fault) → IsMemoryOr fault (IsDescribedText file (Err fault)) → IsMemoryOr fault (IsPutBy MakesOf reply_for on (Err fault))
+  pub made-no_text : (fault : Fault) → IsMemoryOr fault (IsDescribedText file (Err fault)) → IsMemoryOr fault (IsPutBy IsDescribedText MakesOf reply_for on (Err fault))
   made-no_text fault h = memory_or_weaker fault _ _ (λ none. inl (fault, none, refl)) h
 
   module _ (text : DescribedText) (is : IsDescribedText file (Ok text)) where
-    once_read : (r : Result Outcome Fault) → IsPutOn MakesOf reply_for on r → IsPutBy MakesOf reply_for on r
+    once_read : (r : Result Outcome Fault) → IsPutOn MakesOf reply_for on r → IsPutBy IsDescribedText MakesOf reply_for on r
     once_read r put = inr (text, is, put)
 
-    pub made-no_opening : (fault : Fault) → IsMemoryOr fault (IsOpening file journal (Err fault)) → IsMemoryOr fault (IsPutBy MakesOf reply_for on (Err fault))
+    pub made-no_opening : (fault : Fault) → IsMemoryOr fault (IsOpening file journal (Err fault)) → IsMemoryOr fault (IsPutBy IsDescribedText MakesOf reply_for on (Err fault))
     made-no_opening fault h = memory_or_weaker fault _ _ (once_read (Err fault)) (put-no_opening fault h)
 
     module _ (o : Opened) (opens : IsOpening file journal (Ok o)) where
-      pub made-refused : (fault : Fault) → IsMemoryOr fault (MakesOf o (Err fault)) → IsMemoryOr fault (IsPutBy MakesOf reply_for on (Err fault))
+      pub made-refused : (fault : Fault) → IsMemoryOr fault (MakesOf o (Err fault)) → IsMemoryOr fault (IsPutBy IsDescribedText MakesOf reply_for on (Err fault))
       made-refused fault h = memory_or_weaker fault _ _ (once_read (Err fault)) (put-refused o opens fault h)
 
       -- what becomes of it
       module _ (tool : Tool) (made : Edited) (is_made : MakesOf o (Ok (tool, made))) (reply : Reply) (replied : reply ≡ reply_for o tool made) where
         pub made-put : (r : Result Decision Fault) → UnlessMemory r (λ answer. IsEditOutcome o on tool made reply (outcome_in answer))
-            → UnlessMemory r (λ answer. IsPutBy MakesOf reply_for on (outcome_in answer))
+            → UnlessMemory r (λ answer. IsPutBy IsDescribedText MakesOf reply_for on (outcome_in answer))
         made-put (Ok decision) h = once_read (Ok (outcome_of decision)) (put-made o opens tool made is_made reply replied (Ok decision) h)
         made-put (Err fault) h = memory_or_weaker fault _ _ (once_read (Err fault)) (put-made o opens tool made is_made reply replied (Err fault) h)
 

@@ -29,9 +29,8 @@ use Rattle.rec_tools.specs.declared.request.EditRequest.TheVariants.{Insert, Rep
 use Rattle.rec_tools.specs.Steps.{Then}
 use Rattle.rec_tools.specs.Asking.{IsFilter}
 use Rattle.rec_tools.specs.Batches.{AreEdits}
-use Rattle.rec_tools.specs.Requests.{Edits, IsTaskBy, IsTaskOf, AreTasks, HaveOneTask, Agree, IsOneEdit, IsBatch}
+use Rattle.rec_tools.specs.Requests.{Edits, IsTaskBy, IsTaskOf, AreTasks, HaveOneTask, Agree, IsOneEdit, IsBatch, Makes, IsMade}
 use Rattle.rec_tools.specs.Making.{AreMade, HasNoTaskAt}
-use Rattle.rec_tools.specs.Outcomes.{Makes, IsMade}
 use Rattle.rec_text.proofs.lemmas.FaultLemmas.{memory_or_weaker, ok_is_no_err}
 use Rattle.rec_text.proofs.lemmas.StepLemmas.{HasOneBut, Then-first, Then-next, AgreeBut, AgreeBut-Then, AreLike, AgreeLike, AgreeLike-value, AgreeLike-Then, AgreeBut-like}
 use Rattle.rec_tools.proofs.lemmas.outcomes.AnswerLemmas.{AreAlike, AgreeLike-filter, same_selection}

@@ -19,7 +19,8 @@ use Rattle.rec_diff.proofs.lemmas.reverting.RevertLemmas.{reverts_leave_the_rest
 use Rattle.rec_check.specs.DescribedTexts.{DescribedText, IsDescribedText}
 use Rattle.rec_edit.specs.declared.answer.Edited.{Edited}
 use Rattle.rec_edit.specs.Outcome.{IsSoundUnlessForced}
-use Rattle.rec_tools.specs.Reverting.{Standing, TakesBack, AreHunksBack, IsLeft, IsReadable, IsKept, IsRevertOf, edited_back, last_tool, standing_of, unread}
+use Rattle.rec_tools.specs.Reverting.{TakesBack, AreHunksBack, IsLeft, IsReadable, IsKept, IsRevertOf, edited_back, last_tool, standing_of, unread, IsReverted}
+use Rattle.rec_tools.specs.Asked.{Standing}
 use Rattle.rec_tools.specs.proving.Editing.{HasSteps}
 
 -- ---- the hunks
@@ -155,16 +156,16 @@ module _ (text : List ℕ) (described : DescribedText) (is : IsDescribedText tex
 -- ---- a revert
 
 module _ (number : ℕ) (force : Bool) (o : Opened) (file : List ℕ) where
-  pub revert-no_edit : (fault : Fault) → IsMemoryOr fault (IsStandingEdit o file number (Err fault)) → IsMemoryOr fault (IsRevertOf number force o file (Err fault))
+  pub revert-no_edit : (fault : Fault) → IsMemoryOr fault (IsStandingEdit o file number (Err fault)) → IsMemoryOr fault (IsRevertOf number (IsReverted force) o file (Err fault))
   revert-no_edit fault h = memory_or_weaker fault _ _ (λ none. inl (fault, none, refl)) h
 
   module _ (found : WithLater) (is : IsStandingEdit o file number (Ok found)) where
-    pub revert-nothing_left : (fault : Fault) → IsMemoryOr fault (IsLeft (standing_of found) file (Err fault)) → IsMemoryOr fault (IsRevertOf number force o file (Err fault))
+    pub revert-nothing_left : (fault : Fault) → IsMemoryOr fault (IsLeft (standing_of found) file (Err fault)) → IsMemoryOr fault (IsRevertOf number (IsReverted force) o file (Err fault))
     revert-nothing_left fault h = memory_or_weaker fault _ _ (λ none. inr (found, is, inl (fault, none, refl))) h
 
     module _ (tool : Tool) (edited : Edited) (left : IsLeft (standing_of found) file (Ok (tool, edited))) where
-      pub revert-not_kept : (fault : Fault) → IsMemoryOr fault (IsKept force edited.text (Err fault)) → IsMemoryOr fault (IsRevertOf number force o file (Err fault))
+      pub revert-not_kept : (fault : Fault) → IsMemoryOr fault (IsKept force edited.text (Err fault)) → IsMemoryOr fault (IsRevertOf number (IsReverted force) o file (Err fault))
       revert-not_kept fault h = memory_or_weaker fault _ _ (λ none. inr (found, is, inr ((tool, edited), left, inl (fault, none, refl)))) h
 
-      pub revert-made : (x : Unit {0}) → IsKept force edited.text (Ok x) → IsRevertOf number force o file (Ok (tool, edited))
+      pub revert-made : (x : Unit {0}) → IsKept force edited.text (Ok x) → IsRevertOf number (IsReverted force) o file (Ok (tool, edited))
       revert-made x kept = inr (found, is, inr ((tool, edited), left, inr (x, kept, refl)))

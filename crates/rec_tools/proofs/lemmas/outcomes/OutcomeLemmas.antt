@@ -9,7 +9,6 @@ use Rattle.rec_text.proofs.lemmas.records.RecordLemmas.{OneListOfRecords-holds}
 use Rattle.rec_sex.specs.declared.lists.field_list.Item.{Item}
 use Rattle.rec_sex.proofs.lemmas.lists.FieldListReading.{one_field_list}
 use Rattle.rec_check.specs.declared.set.Set_.{Set_}
-use Rattle.rec_check.specs.DescribedTexts.{IsDescribedText}
 use Rattle.rec_check.proofs.lemmas.laws.CheckLemmas.{one_check}
 use Rattle.rec_check.specs.Violations.{AreViolationsOf}
 use Rattle.rec_select.specs.declared.info.InfoForm.{InfoForm}
@@ -21,7 +20,6 @@ use Rattle.rec_select.specs.Report.{report}
 use Rattle.rec_select.specs.Selection.{IsSelection}
 use Rattle.rec_select.proofs.lemmas.selection.SelectionLemmas.{one_selection}
 use Rattle.rec_journal.specs.declared.event.Revision.{Revision}
-use Rattle.rec_journal.specs.declared.event.EditStep.{EditStep}
 use Rattle.rec_journal.specs.declared.patch.Direction.{Direction}
 use Rattle.rec_journal.specs.declared.patch.Direction.TheVariants.{Forward, Backward}
 use Rattle.rec_journal.specs.declared.event.Tool.{Tool}
@@ -34,9 +32,6 @@ use Rattle.rec_journal.proofs.lemmas.plans.PlanLemmas.{one_move_plan}
 use Rattle.rec_journal.proofs.lemmas.histories.Openings.{one_opening}
 use Rattle.rec_journal.proofs.lemmas.texts.AllLemmas.{one_list_of_texts}
 use Rattle.rec_journal.proofs.lemmas.texts.WayLemmas.{one_edit_texts}
-use Rattle.rec_diff.specs.declared.style.DiffStyle.{DiffStyle}
-use Rattle.rec_diff.specs.Diffs.{IsDiff}
-use Rattle.rec_diff.proofs.lemmas.DiffLemmas.{no_refused_diff, one_diff}
 use Rattle.rec_edit.specs.declared.answer.Edited.{Edited}
 use Rattle.rec_tools.specs.declared.request.Form.{Form}
 use Rattle.rec_tools.specs.declared.request.Form.TheVariants.{Blocks, Print, Values, Row, Count}
@@ -48,24 +43,24 @@ use Rattle.rec_tools.specs.declared.request.Change.TheVariants.{Edit, Batch, Und
 use Rattle.rec_tools.specs.declared.request.Request.{Request}
 use Rattle.rec_tools.specs.declared.request.Request.TheVariants.{Look as Looks, Change as Changes, Preview as Previews}
 use Rattle.rec_tools.specs.declared.request.Reply.{Reply}
-use Rattle.rec_tools.specs.declared.request.Reply.TheVariants.{Shown}
 use Rattle.rec_tools.specs.Home.{Contents, Write, written}
 use Rattle.rec_tools.specs.Steps.{Then}
 use Rattle.rec_tools.specs.Asking.{IsFilter, IsListed, IsShape}
-use Rattle.rec_tools.specs.Printouts.{Printout, printed_history, told_of, IsLog, IsShownEdit, IsLogOf, IsWholeLog, IsShow, IsInfoOf, IsShownText, IsReportText, verdict}
-use Rattle.rec_tools.specs.Requests.{Edits, AskedChange, editing, moving, reverting, forgetting, adopting, writing, Asked, looking, listing, showing, listing_changes, changing, previewing}
-use Rattle.rec_tools.specs.Requests.{look_of, change_of, asked_of}
+use Rattle.rec_tools.specs.Printouts.{printed_history, told_of, IsLog, IsShownEdit, IsLogOf, IsWholeLog, IsShow, IsInfoOf, IsShownText, IsReportText, verdict, IsTold, history_reply}
+use Rattle.rec_tools.specs.Printouts.{IsTextWith}
+use Rattle.rec_tools.specs.Asked.{Printout, AskedChange, editing, moving, reverting, forgetting, adopting, writing, Asked, looking, listing, showing, listing_changes, changing, previewing}
+use Rattle.rec_tools.specs.Asked.{Reading, Standing, Telling}
+use Rattle.rec_tools.specs.Requests.{look_of, change_of, asked_of, IsBatch, IsOneEdit}
 use Rattle.rec_tools.specs.Reverting.{IsRevertOf}
-use Rattle.rec_tools.specs.Outcomes.{Outcome, IsChangeOutcome, IsRequestOutcome, IsPrinting, IsMade, IsWritten, IsEditOutcome, IsPutOn, IsPutBy, IsMove}
-use Rattle.rec_tools.specs.Outcomes.{IsForgetting, IsAdoption, OnTop, LeadsAcross, IsPreviewText, IsPreviewFrom, OneOutcome, edit_reply, revert_reply, write_reply, printing, putting, reply_of}
-use Rattle.rec_text.proofs.lemmas.FaultLemmas.{same_fault, same_value}
+use Rattle.rec_tools.specs.Outcomes.{Outcome, IsChangeOutcome, IsRequestOutcome, IsPrinting, IsEditOutcome, IsPutOn, IsPutBy, IsMove, IsForgetting, IsAdoption, OnTop, LeadsAcross}
+use Rattle.rec_tools.specs.Outcomes.{IsPreviewText, IsPreviewFrom, OneOutcome, edit_reply, revert_reply, write_reply, printing, putting, reply_of}
+use Rattle.rec_text.proofs.lemmas.FaultLemmas.{same_fault, same_value, no_both}
 use Rattle.rec_tools.proofs.lemmas.outcomes.OpeningLemmas.{no_clash, same_plan_of}
-use Rattle.rec_tools.proofs.lemmas.outcomes.EditLemmas.{AreEditsAlike, agree_on_one, agree_on_batch, one_made}
-use Rattle.rec_text.proofs.lemmas.FaultLemmas.{no_both}
-use Rattle.rec_text.proofs.lemmas.StepLemmas.{HasOne, HasOneBut, HasOneBut-of, HasOneBut-Then, AgreeLike, one_value, no_value, one_fault, HasOne-Then, Then-first, Then-next}
-use Rattle.rec_tools.proofs.lemmas.printing.LogLemmas.{one_log}
-use Rattle.rec_tools.proofs.lemmas.outcomes.AnswerLemmas.{HasOneBut-filter, HasOneBut-text, HasOneBut-once_read, agree_by_sets, same_selection}
-use Rattle.rec_tools.proofs.lemmas.outcomes.RevertLemmas.{one_revert_of}
+use Rattle.rec_tools.proofs.lemmas.outcomes.EditLemmas.{agree_on_one, agree_on_batch, one_made}
+use Rattle.rec_text.proofs.lemmas.StepLemmas.{HasOne, HasOneBut, HasOneBut-of, HasOneBut-Then, one_value, no_value, one_fault, HasOne-Then, Then-first, Then-next}
+use Rattle.rec_tools.proofs.lemmas.printing.LogLemmas.{one_log, TellsOne, one_as_diff}
+use Rattle.rec_tools.proofs.lemmas.outcomes.AnswerLemmas.{HasOneBut-filter, HasOneBut-text, agree_by_sets, same_selection, HasOneBut-after, ReadsOne, ReadsOne-text}
+use Rattle.rec_tools.proofs.lemmas.outcomes.RevertLemmas.{one_revert_of, one_reverted}
 use Rattle.rec_tools.proofs.lemmas.outcomes.AdoptLemmas.{HasOne-adoption}
 use Rattle.rec_tools.proofs.lemmas.outcomes.WriteLemmas.{HasOneBut-written}
 
@@ -140,6 +135,13 @@ HasOneBut-shown step has_one (Ok one) (Err fault) is is_too built built_too = ab
 HasOneBut-shown step has_one (Err fault) (Ok other) is is_too built built_too = absurd (no_value step has_one other.text fault is_too.0 is built)
 HasOneBut-shown step has_one (Err fault) (Err other) is is_too built built_too = ap Err (one_fault step has_one fault other is is_too built built_too)
 
+HasOne-with : (reply : Reply) (step : Result (List ℕ) Fault → Type 0) → HasOne step → HasOne (IsTextWith reply step)
+HasOne-with reply step has_one (Ok one) (Ok other) is is_too =
+    ap Ok (same_printout one other (same_value one.text other.text (has_one (Ok one.text) (Ok other.text) is.0 is_too.0)) (is.1 ∙ sym is_too.1))
+HasOne-with reply step has_one (Ok one) (Err fault) is is_too = absurd (no_both one.text fault (has_one (Ok one.text) (Err fault) is.0 is_too))
+HasOne-with reply step has_one (Err fault) (Ok other) is is_too = absurd (no_both other.text fault (has_one (Ok other.text) (Err fault) is_too.0 is))
+HasOne-with reply step has_one (Err fault) (Err other) is is_too = ap Err (same_fault fault other (has_one (Err fault) (Err other) is is_too))
+
 HasOneBut-reported : (step : Result (List Violation) Fault → Type 0) → HasOneBut step → HasOneBut (IsReportText step)
 HasOneBut-reported step has_one (Ok one) (Ok other) (found, is, text, reply) (others, is_too, text_too, reply_too) built built_too =
     let same = one_value step has_one found others is is_too in
@@ -157,16 +159,20 @@ HasOneBut-printing step has_one (Err fault) (Err other) is is_too built built_to
 
 -- ---- what is asked for
 
--- a change has one meaning: its edits are alike
+-- a change has one meaning: one thing is made of a text
 abbrev pub ChangesOne : AskedChange → Type 0
-ChangesOne (editing IsEdit) = AgreeLike AreEditsAlike IsEdit IsEdit
+ChangesOne (editing Reads Makes) = (text : List ℕ) → ReadsOne (Reads text) × HasOneBut (Makes text)
+ChangesOne (reverting Reads number Reverts) = (text : List ℕ) → ReadsOne (Reads text) × ((e : Standing) → HasOneBut (Reverts text e))
+ChangesOne (writing Makes) = (text : List ℕ) → HasOneBut (Makes text)
 ChangesOne _ = Unit {0}
 
--- what is asked for has one answer: one text of a file, and edits that are alike
+-- what is asked for has one answer: one text of a file or of an edit, and one thing that is made
 abbrev pub MeansOne : Asked → Type 0
 MeansOne (looking IsText) = (file : List ℕ) → HasOneBut (IsText file)
 MeansOne (changing change) = ChangesOne change
-MeansOne (previewing style change) = ChangesOne change
+MeansOne (showing number Tells) = TellsOne Tells
+MeansOne (listing_changes Tells) = TellsOne Tells
+MeansOne (previewing Tells change) = TellsOne Tells × ChangesOne change
 MeansOne _ = Unit {0}
 
 one_look : (look : Look) → MeansOne (look_of look)
@@ -174,23 +180,23 @@ one_look (Show pick form collapse) = λ file. HasOneBut-shown _ (HasOneBut-show 
 one_look (Info record_type form) = λ file. HasOneBut-shown _ (HasOneBut-info_of file record_type form)
 one_look Check = λ file. HasOneBut-reported _ (HasOneBut-check file)
 one_look History = tt
-one_look (Diff number style) = tt
-one_look (Log style) = tt
+one_look (Diff number style) = one_as_diff style
+one_look (Log style) = one_as_diff style
 
 pub one_change : (change : Change) → ChangesOne (change_of change)
-one_change (Edit edit force) = agree_on_one edit force
-one_change (Batch text force) = agree_on_batch text force
+one_change (Edit edit force) = λ text. (ReadsOne-text text, one_made (IsOneEdit edit force) (agree_on_one edit force) text)
+one_change (Batch text force) = λ file. (ReadsOne-text file, one_made (IsBatch text force) (agree_on_batch text force) file)
 one_change (Undo through) = tt
 one_change (Redo through) = tt
-one_change (Revert number force) = tt
+one_change (Revert number force) = λ text. (ReadsOne-text text, one_reverted force text)
 one_change (Forget n dropped) = tt
 one_change (Adopt old) = tt
-one_change (WriteText text over force) = tt
+one_change (WriteText text over force) = HasOneBut-written force over text
 
 pub one_meaning : (request : Request) → MeansOne (asked_of request)
 one_meaning (Looks look) = one_look look
 one_meaning (Changes change) = one_change change
-one_meaning (Previews change style) = one_change change
+one_meaning (Previews change style) = (one_as_diff style, one_change change)
 
 -- ---- an edit
 
@@ -255,33 +261,35 @@ module _ (n : ℕ) (dropping : Bool) (o : Opened) (c : Contents) where
 
 -- ---- what edits made
 
-HasOne-diff : (direction : Direction) (style : DiffStyle) (steps : List EditStep) (here there : List ℕ) → HasOne (IsDiff direction style steps here there)
-HasOne-diff direction style steps here there (Ok one) (Ok other) is is_too = ap Ok (one_diff direction style steps here there one other is is_too)
-HasOne-diff direction style steps here there (Ok one) (Err fault) is is_too = absurd (no_refused_diff direction style steps here there fault is_too)
-HasOne-diff direction style steps here there (Err fault) other is is_too = absurd (no_refused_diff direction style steps here there fault is)
+HasOne-told : (IsText : List ℕ → Type 0) → ((one other : List ℕ) → IsText one → IsText other → one ≡ other) → HasOne (IsTold IsText)
+HasOne-told IsText has_one (Ok one) (Ok other) is is_too = ap Ok (has_one one other is is_too)
+HasOne-told IsText has_one (Ok one) (Err fault) is is_too = absurd is_too
+HasOne-told IsText has_one (Err fault) other is is_too = absurd is
 
-HasOne-shown_edit : (number : Option ℕ) (style : DiffStyle) (file journal : List ℕ) → HasOne (IsShownEdit number style file journal)
-HasOne-shown_edit number style file journal =
-    HasOne-Then (IsOpening file journal) _ (one_opening file journal) (λ o opens.
-    HasOne-Then (IsEditTexts o file number) _ (one_edit_texts file journal o number opens) (λ made _.
-    HasOne-diff Forward style made.edit.steps made.before made.after))
+module _ (Tells : Telling) (tells : TellsOne Tells) where
+  HasOne-shown_edit : (number : Option ℕ) (file journal : List ℕ) → HasOne (IsShownEdit number Tells file journal)
+  HasOne-shown_edit number file journal =
+      HasOne-Then (IsOpening file journal) _ (one_opening file journal) (λ o opens.
+      HasOne-Then (IsEditTexts o file number) _ (one_edit_texts file journal o number opens) (λ made _.
+      HasOne-told (Tells Forward made.edit.steps made.before made.after) (tells Forward made.edit.steps made.before made.after)))
 
-HasOne-log_of : (style : DiffStyle) (file journal : List ℕ) (o : Opened) → HasOne (IsLogOf style file o)
-HasOne-log_of style file journal o (Ok one) (Ok other) (inl (drifted, e)) (inl (drifted_too, k)) = ap Ok (e ∙ sym k)
-HasOne-log_of style file journal o (Ok one) (Ok other) (inl (drifted, e)) (inr (settled, is)) = absurd (false≢true (sym settled ∙ drifted))
-HasOne-log_of style file journal o (Ok one) (Ok other) (inr (settled, is)) (inl (drifted, k)) = absurd (false≢true (sym settled ∙ drifted))
-HasOne-log_of style file journal o (Ok one) (Ok other) (inr (settled, (all, are, log))) (inr (settled_too, (others, are_too, log_too))) =
-    let same = (one_list_of_texts file o others settled are_too).only all are in
-    ap Ok (one_log style (map told_of others) one other (subst (λ es. IsLog style (map told_of es) one) same log) log_too)
-HasOne-log_of style file journal o (Ok one) (Err fault) (inl (drifted, e)) (is_too, settled, none) = absurd (false≢true (sym settled ∙ drifted))
-HasOne-log_of style file journal o (Ok one) (Err fault) (inr (settled, (all, are, log))) (is_too, settled_too, none) = absurd (none all are)
-HasOne-log_of style file journal o (Err fault) (Ok other) (is, settled, none) (inl (drifted, k)) = absurd (false≢true (sym settled ∙ drifted))
-HasOne-log_of style file journal o (Err fault) (Ok other) (is, settled, none) (inr (settled_too, (all, are, log))) = absurd (none all are)
-HasOne-log_of style file journal o (Err fault) (Err other) is is_too = ap Err (is.0 ∙ sym is_too.0)
+  HasOne-log_of : (file journal : List ℕ) (o : Opened) → HasOne (IsLogOf Tells file o)
+  HasOne-log_of file journal o (Ok one) (Ok other) (inl (drifted, e)) (inl (drifted_too, k)) = ap Ok (e ∙ sym k)
+  HasOne-log_of file journal o (Ok one) (Ok other) (inl (drifted, e)) (inr (settled, is)) = absurd (false≢true (sym settled ∙ drifted))
+  HasOne-log_of file journal o (Ok one) (Ok other) (inr (settled, is)) (inl (drifted, k)) = absurd (false≢true (sym settled ∙ drifted))
+  HasOne-log_of file journal o (Ok one) (Ok other) (inr (settled, (all, are, log))) (inr (settled_too, (others, are_too, log_too))) =
+      let same = (one_list_of_texts file o others settled are_too).only all are in
+      ap Ok (one_log Tells tells (map told_of others) one other (subst (λ es. IsLog Tells (map told_of es) one) same log) log_too)
+  HasOne-log_of file journal o (Ok one) (Err fault) (inl (drifted, e)) (is_too, settled, none) = absurd (false≢true (sym settled ∙ drifted))
+  HasOne-log_of file journal o (Ok one) (Err fault) (inr (settled, (all, are, log))) (is_too, settled_too, none) = absurd (none all are)
+  HasOne-log_of file journal o (Err fault) (Ok other) (is, settled, none) (inl (drifted, k)) = absurd (false≢true (sym settled ∙ drifted))
+  HasOne-log_of file journal o (Err fault) (Ok other) (is, settled, none) (inr (settled_too, (all, are, log))) = absurd (none all are)
+  HasOne-log_of file journal o (Err fault) (Err other) is is_too = ap Err (is.0 ∙ sym is_too.0)
 
-HasOne-whole_log : (style : DiffStyle) (file journal : List ℕ) → HasOne (IsWholeLog style file journal)
-HasOne-whole_log style file journal =
-    HasOne-Then (IsOpening file journal) (IsLogOf style file) (one_opening file journal) (λ o _. HasOne-log_of style file journal o)
+  HasOne-whole_log : (file journal : List ℕ) → HasOne (IsWholeLog Tells file journal)
+  HasOne-whole_log file journal =
+      HasOne-Then (IsOpening file journal) (λ o. IsTextWith (history_reply o) (IsLogOf Tells file o)) (one_opening file journal)
+      (λ o _. HasOne-with (history_reply o) (IsLogOf Tells file o) (HasOne-log_of file journal o))
 
 -- ---- what would change
 
@@ -290,7 +298,7 @@ pub same_top : {X : Type 0} (direction : Direction) (x y : X) (old new : List X)
 same_top Forward x y old new is is_too = let e = sym is ∙ is_too in cc
 same_top Backward x y old new is is_too = let e = sym is ∙ is_too in cc
 
-module _ (style : DiffStyle) (c d : Contents) where
+module _ (Tells : Telling) (tells : TellsOne Tells) (c d : Contents) where
   -- the edit that leads across is one
   same_across : (direction : Direction) (e f : Revision) → LeadsAcross direction e c d → LeadsAcross direction f c d → e ≡ f
   same_across direction e f is is_too =
@@ -305,25 +313,25 @@ module _ (style : DiffStyle) (c d : Contents) where
       let there = same_value is.there is_too.there (one_opening d.file d.journal (Ok is.there) (Ok is_too.there) is.opens_there is_too.opens_there) in
       omega (arith, ap length is.on_top, ap length is_too.on_top, ap (λ (o : Opened). length o.past) here, ap (λ (o : Opened). length o.past) there)
 
-  one_preview_text : (one other : List ℕ) → IsPreviewText style c d one → IsPreviewText style c d other → one ≡ other
+  one_preview_text : (one other : List ℕ) → IsPreviewText Tells c d one → IsPreviewText Tells c d other → one ≡ other
   one_preview_text one other (inl is) (inl is_too) = is.1 ∙ sym is_too.1
   one_preview_text one other (inl is) (inr (direction, e, across, diff)) = absurd (across.differ is.0)
   one_preview_text one other (inr (direction, e, across, diff)) (inl is_too) = absurd (across.differ is_too.0)
   one_preview_text one other (inr (Forward, e, across, diff)) (inr (Forward, f, across_too, diff_too)) =
-      one_diff Forward style f.steps c.file d.file one other
-      (subst (λ (x : Revision). IsDiff Forward style x.steps c.file d.file (Ok one)) (same_across Forward e f across across_too) diff) diff_too
+      tells Forward f.steps c.file d.file one other
+      (subst (λ (x : Revision). Tells Forward x.steps c.file d.file one) (same_across Forward e f across across_too) diff) diff_too
   one_preview_text one other (inr (Backward, e, across, diff)) (inr (Backward, f, across_too, diff_too)) =
-      one_diff Backward style f.steps c.file d.file one other
-      (subst (λ (x : Revision). IsDiff Backward style x.steps c.file d.file (Ok one)) (same_across Backward e f across across_too) diff) diff_too
+      tells Backward f.steps c.file d.file one other
+      (subst (λ (x : Revision). Tells Backward x.steps c.file d.file one) (same_across Backward e f across across_too) diff) diff_too
   one_preview_text one other (inr (Forward, e, across, diff)) (inr (Backward, f, across_too, diff_too)) = absurd (not_back_and_forth e f across across_too)
   one_preview_text one other (inr (Backward, e, across, diff)) (inr (Forward, f, across_too, diff_too)) = absurd (not_back_and_forth f e across_too across)
 
-  one_preview_from : (from : Option (List ℕ)) (one other : List ℕ) → IsPreviewFrom from style c d one → IsPreviewFrom from style c d other → one ≡ other
+  one_preview_from : (from : Option (List ℕ)) (one other : List ℕ) → IsPreviewFrom from Tells c d one → IsPreviewFrom from Tells c d other → one ≡ other
   one_preview_from None one other is is_too = one_preview_text one other is is_too
   one_preview_from (Some from) one other (e, leads, diff) (f, leads_too, diff_too) =
       let there = same_value leads.there leads_too.there (one_opening d.file d.journal (Ok leads.there) (Ok leads_too.there) leads.opens_there leads_too.opens_there) in
       let same = same_first e f leads.others leads_too.others (sym leads.newest ∙ ap (λ (o : Opened). o.past) there ∙ leads_too.newest) in
-      one_diff Forward style f.steps from d.file one other (subst (λ (x : Revision). IsDiff Forward style x.steps from d.file (Ok one)) same diff) diff_too
+      tells Forward f.steps from d.file one other (subst (λ (x : Revision). Tells Forward x.steps from d.file one) same diff) diff_too
 
 same_outcome : (one other : Outcome) → one.text ≡ other.text → one.writes ≡ other.writes → one.reply ≡ other.reply → one.from ≡ other.from → one ≡ other
 same_outcome one other text writes reply from =
@@ -343,17 +351,17 @@ module _ (c : Contents) where
       (λ told _. HasOneBut-of (last o told) (HasOne-edit_outcome o c opens told.0 told.1 (reply_for o told.0 told.1))))
 
   -- of a file that reads
-  HasOneBut-put_by : (MakesOf : Opened → Result (Tool × Edited) Fault → Type 0) (reply_for : Opened → Tool → Edited → Reply)
-      → ((o : Opened) → Opens c.file c.journal o → HasOneBut (MakesOf o)) → HasOneBut (IsPutBy MakesOf reply_for c)
-  HasOneBut-put_by MakesOf reply_for has_one = HasOneBut-once_read c.file (IsPutOn MakesOf reply_for c) (HasOneBut-put MakesOf reply_for has_one)
+  HasOneBut-put_by : {X : Type 0} (Reads : Reading X) (MakesOf : Opened → Result (Tool × Edited) Fault → Type 0) (reply_for : Opened → Tool → Edited → Reply)
+      → ReadsOne (Reads c.file) → ((o : Opened) → Opens c.file c.journal o → HasOneBut (MakesOf o)) → HasOneBut (IsPutBy Reads MakesOf reply_for c)
+  HasOneBut-put_by Reads MakesOf reply_for reads has_one = HasOneBut-after (Reads c.file) (IsPutOn MakesOf reply_for c) reads (HasOneBut-put MakesOf reply_for has_one)
 
   -- a change comes to one outcome
   pub one_change_outcome : (change : AskedChange) → ChangesOne change → HasOneBut (IsChangeOutcome c change)
-  one_change_outcome (editing IsEdit) means one other is is_too built built_too =
-      HasOneBut-put_by (λ _. IsMade IsEdit c.file) (λ o. edit_reply o.next o.dropped) (λ o opens. one_made IsEdit means c.file) one other is is_too built built_too
-  one_change_outcome (reverting number force) means one other is is_too built built_too =
-      HasOneBut-put_by (λ o. IsRevertOf number force o c.file) (λ o. revert_reply number o.next) (λ o opens. one_revert_of number force o c.file c.journal opens)
-      one other is is_too built built_too
+  one_change_outcome (editing Reads Makes) means one other is is_too built built_too =
+      HasOneBut-put_by Reads (λ _. Makes c.file) (λ o. edit_reply o.next o.dropped) (means c.file).0 (λ o opens. (means c.file).1) one other is is_too built built_too
+  one_change_outcome (reverting Reads number Reverts) means one other is is_too built built_too =
+      HasOneBut-put_by Reads (λ o. IsRevertOf number Reverts o c.file) (λ o. revert_reply number o.next) (means c.file).0
+      (λ o opens. one_revert_of number Reverts o c.file c.journal opens (means c.file).1) one other is is_too built built_too
   one_change_outcome (moving direction through) means one other is is_too built built_too =
       HasOne-Then (IsOpening c.file c.journal) (λ o. IsMove direction through o c) (one_opening c.file c.journal) (λ o _. HasOne-move direction through o c)
       one other is is_too
@@ -362,33 +370,32 @@ module _ (c : Contents) where
       one other is is_too
   one_change_outcome (adopting old) means one other is is_too built built_too =
       HasOne-Then (IsOpening c.file c.journal) (λ o. IsAdoption old o c) (one_opening c.file c.journal) (λ o _. HasOne-adoption old o c) one other is is_too
-  one_change_outcome (writing force over text) means one other is is_too built built_too =
-      HasOneBut-put (λ _. IsWritten force over text c.file) (λ o. write_reply o.next o.dropped) (λ o opens. HasOneBut-written force over text c.file)
-      one other is is_too built built_too
+  one_change_outcome (writing Makes) means one other is is_too built built_too =
+      HasOneBut-put (λ _. Makes c.file) (λ o. write_reply o.next o.dropped) (λ o opens. means c.file) one other is is_too built built_too
 
   -- what is asked for comes to one outcome
   pub one_outcome_of : (asked : Asked) → MeansOne asked → HasOneBut (IsRequestOutcome c asked)
   one_outcome_of (looking IsText) means one other is is_too built built_too =
       HasOneBut-printing (IsText c.file) (means c.file) one other is is_too built built_too
   one_outcome_of listing means one other is is_too built built_too =
-      HasOne-Then (IsOpening c.file c.journal) (λ o given. given ≡ Ok (printing (printed_history o) Shown)) (one_opening c.file c.journal)
+      HasOne-Then (IsOpening c.file c.journal) (λ o given. given ≡ Ok (printing (printed_history o) (history_reply o))) (one_opening c.file c.journal)
       (λ o _ a b e k. e ∙ sym k) one other is is_too
-  one_outcome_of (showing number style) means one other is is_too built built_too =
-      HasOneBut-printing _ (HasOneBut-shown _ (HasOneBut-of _ (HasOne-shown_edit number style c.file c.journal))) one other is is_too built built_too
-  one_outcome_of (listing_changes style) means one other is is_too built built_too =
-      HasOneBut-printing _ (HasOneBut-shown _ (HasOneBut-of _ (HasOne-whole_log style c.file c.journal))) one other is is_too built built_too
+  one_outcome_of (showing number Tells) means one other is is_too built built_too =
+      HasOneBut-printing _ (HasOneBut-shown _ (HasOneBut-of _ (HasOne-shown_edit Tells means number c.file c.journal))) one other is is_too built built_too
+  one_outcome_of (listing_changes Tells) means one other is is_too built built_too =
+      HasOneBut-printing _ (HasOneBut-of _ (HasOne-whole_log Tells means c.file c.journal)) one other is is_too built built_too
   one_outcome_of (changing change) means one other is is_too built built_too = one_change_outcome change means one other is is_too built built_too
-  one_outcome_of (previewing style change) means (Ok one) (Ok other) (would, is, preview) (also, is_too, preview_too) built built_too =
-      let same = same_value would also (one_change_outcome change means (Ok would) (Ok also) is is_too (no_both would BadPattern) (no_both also BadPattern)) in
+  one_outcome_of (previewing Tells change) means (Ok one) (Ok other) (would, is, preview) (also, is_too, preview_too) built built_too =
+      let same = same_value would also (one_change_outcome change means.1 (Ok would) (Ok also) is is_too (no_both would BadPattern) (no_both also BadPattern)) in
       ap Ok (same_outcome one other
-      (one_preview_from style c (written c also.writes) also.from one.text other.text (subst (λ (w : Outcome). IsPreviewFrom w.from style c (written c w.writes) one.text) same preview.text)
+      (one_preview_from Tells means.0 c (written c also.writes) also.from one.text other.text (subst (λ (w : Outcome). IsPreviewFrom w.from Tells c (written c w.writes) one.text) same preview.text)
       preview_too.text) (preview.writes ∙ sym preview_too.writes) (preview.reply ∙ ap (λ (w : Outcome). w.reply) same ∙ sym preview_too.reply) (preview.from ∙ sym preview_too.from))
-  one_outcome_of (previewing style change) means (Ok one) (Err fault) (would, is, preview) is_too built built_too =
-      absurd (no_both would fault (one_change_outcome change means (Ok would) (Err fault) is is_too (no_both would BadPattern) built_too))
-  one_outcome_of (previewing style change) means (Err fault) (Ok other) is (would, is_too, preview) built built_too =
-      absurd (no_both would fault (one_change_outcome change means (Ok would) (Err fault) is_too is (no_both would BadPattern) built))
-  one_outcome_of (previewing style change) means (Err fault) (Err other) is is_too built built_too =
-      one_change_outcome change means (Err fault) (Err other) is is_too built built_too
+  one_outcome_of (previewing Tells change) means (Ok one) (Err fault) (would, is, preview) is_too built built_too =
+      absurd (no_both would fault (one_change_outcome change means.1 (Ok would) (Err fault) is is_too (no_both would BadPattern) built_too))
+  one_outcome_of (previewing Tells change) means (Err fault) (Ok other) is (would, is_too, preview) built built_too =
+      absurd (no_both would fault (one_change_outcome change means.1 (Ok would) (Err fault) is_too is (no_both would BadPattern) built))
+  one_outcome_of (previewing Tells change) means (Err fault) (Err other) is is_too built built_too =
+      one_change_outcome change means.1 (Err fault) (Err other) is is_too built built_too
 
 pub one_outcome : OneOutcome
 one_outcome c request one other is is_too built built_too = one_outcome_of c (asked_of request) (one_meaning request) one other is is_too built built_too

@@ -1,5 +1,5 @@
 -- What a revert makes of a text: there is one answer, and no store fails.
-use Rattle.std.proofs.Common.{◌≡◌, inl, inr, ℕ, Bool, true, false, List, Result, Ok, Err, ap, sym, subst, refl, ◌∙◌}
+use Rattle.std.proofs.Common.{◌≡◌, inl, inr, ℕ, Bool, true, false, List, Result, Ok, Err, ap, sym, refl, ◌∙◌}
 use Rattle.rec_text.specs.declared.fault.Fault.{Fault}
 use Rattle.rec_text.specs.declared.fault.Fault.TheVariants.{OutOfMemory, BadPattern, StoreFailed}
 use Rattle.rec_text.specs.Steps.{Then}
@@ -7,7 +7,7 @@ use Rattle.rec_text.proofs.lemmas.FaultLemmas.{no_both, ok_is_no_err, same_fault
 use Rattle.rec_text.proofs.lemmas.StepLemmas.{HasOne, HasOneBut, HasOneBut-of, HasOneBut-Then, HasOne-Then}
 use Rattle.rec_journal.specs.declared.patch.Hunk.{Hunk}
 use Rattle.rec_journal.specs.declared.event.Tool.{Tool}
-use Rattle.rec_journal.specs.EditTexts.{WithLater, IsStandingEdit}
+use Rattle.rec_journal.specs.EditTexts.{IsStandingEdit}
 use Rattle.rec_journal.specs.History.{Opened, Opens}
 use Rattle.rec_journal.specs.Patch.{Splices}
 use Rattle.rec_journal.proofs.lemmas.patches.SplicingLemmas.{leads_to_one_text}
@@ -18,10 +18,11 @@ use Rattle.rec_check.specs.Violations.{AreViolationsOf}
 use Rattle.rec_check.proofs.lemmas.laws.CheckLemmas.{one_check}
 use Rattle.rec_edit.specs.declared.answer.Edited.{Edited}
 use Rattle.rec_edit.specs.Outcome.{none_of, IsSoundUnlessForced}
-use Rattle.rec_tools.specs.Reverting.{Standing, TakesBack, AreHunksBack, IsLeft, IsReadable, IsKept, IsReverted, IsRevertOf, edited_back, standing_of, unread}
+use Rattle.rec_tools.specs.Reverting.{TakesBack, AreHunksBack, IsLeft, IsReadable, IsKept, IsReverted, IsRevertOf, edited_back, standing_of, unread}
+use Rattle.rec_tools.specs.Asked.{Standing, Reversal}
 use Rattle.rec_tools.proofs.lemmas.outcomes.AnswerLemmas.{HasOneBut-once_read}
 use Rattle.rec_tools.proofs.lemmas.outcomes.EditLemmas.{no_store_sound}
-use Rattle.rec_tools.proofs.lemmas.printing.PutsLemmas.{no_store_then, no_store_text}
+use Rattle.rec_tools.proofs.lemmas.printing.PutsLemmas.{no_store_then}
 
 -- ---- what is left
 
@@ -77,10 +78,11 @@ one_reverted force here e =
     HasOneBut-Then (IsKept force (told.1).text) _ (HasOneBut-readable (told.1).text (IsSoundUnlessForced force (told.1).text) (HasOneBut-sound force (told.1).text))
     (λ _ _. HasOneBut-of _ (λ one other x y. x ∙ sym y)))
 
-pub one_revert_of : (number : ℕ) (force : Bool) (o : Opened) (file journal : List ℕ) → Opens file journal o → HasOneBut (IsRevertOf number force o file)
-one_revert_of number force o file journal opens =
-    HasOneBut-Then (IsStandingEdit o file number) (λ found. IsReverted force file (standing_of found)) (HasOneBut-of _ (one_standing_edit file journal o number opens))
-    (λ found _. one_reverted force file (standing_of found))
+pub one_revert_of : (number : ℕ) (Reverts : Reversal) (o : Opened) (file journal : List ℕ) → Opens file journal o → ((e : Standing) → HasOneBut (Reverts file e))
+    → HasOneBut (IsRevertOf number Reverts o file)
+one_revert_of number Reverts o file journal opens has_one =
+    HasOneBut-Then (IsStandingEdit o file number) (λ found. Reverts file (standing_of found)) (HasOneBut-of _ (one_standing_edit file journal o number opens))
+    (λ found _. has_one (standing_of found))
 
 -- ---- no refusal because a store failed
 
@@ -110,7 +112,7 @@ no_store_standing : (number : ℕ) (o : Opened) (file : List ℕ) → IsStanding
 no_store_standing number o file (inl drifted) = let e = drifted.0 in cc
 no_store_standing number o file (inr none) = let e = none.0 in cc
 
-pub no_store_revert : (number : ℕ) (force : Bool) (o : Opened) (file : List ℕ) → IsRevertOf number force o file (Err StoreFailed) → ⊥
+pub no_store_revert : (number : ℕ) (force : Bool) (o : Opened) (file : List ℕ) → IsRevertOf number (IsReverted force) o file (Err StoreFailed) → ⊥
 no_store_revert number force o file =
     no_store_then (IsStandingEdit o file number) (λ found. IsReverted force file (standing_of found)) (no_store_standing number o file)
     (λ found. no_store_reverted force file (standing_of found))

@@ -6,10 +6,7 @@ use Rattle.rec_journal.specs.declared.event.Tool.{Tool}
 use Rattle.rec_journal.specs.EditTexts.{WithTexts, IsEditTexts, none_such}
 use Rattle.rec_journal.specs.History.{Opened, IsOpening}
 use Rattle.rec_edit.specs.declared.answer.Edited.{Edited}
-use Rattle.rec_diff.specs.declared.style.DiffStyle.{DiffStyle}
-use Rattle.rec_diff.specs.Diffs.{IsDiff}
 use Rattle.rec_tools.specs.declared.request.Reply.{Reply}
-use Rattle.rec_tools.specs.declared.request.Reply.TheVariants.{Shown}
 use Rattle.rec_tools.specs.declared.request.Look.{Look}
 use Rattle.rec_tools.specs.declared.request.Look.TheVariants.{Show, Info, Check, History, Diff, Log}
 use Rattle.rec_tools.specs.declared.request.Change.{Change}
@@ -22,12 +19,14 @@ use Rattle.rec_journal.specs.declared.patch.Direction.{Direction}
 use Rattle.rec_journal.specs.declared.patch.Direction.TheVariants.{Forward, Backward}
 use Rattle.rec_journal.specs.Plans.{nothing_there}
 use Rattle.rec_check.specs.DescribedTexts.{IsDescribedText}
-use Rattle.rec_tools.specs.Printouts.{printed_history, IsShownEdit, IsLogOf, IsWholeLog}
+use Rattle.rec_tools.specs.Printouts.{printed_history, IsShownEdit, IsLogOf, IsWholeLog, IsTold, history_reply, IsTextWith}
 use Rattle.rec_select.specs.Info.{IsInfo}
-use Rattle.rec_tools.specs.Requests.{Edits, IsOneEdit, IsBatch, editing, moving, reverting, forgetting, adopting, writing, look_of, change_of, asked_of}
-use Rattle.rec_tools.specs.Reverting.{IsRevertOf}
-use Rattle.rec_tools.specs.Outcomes.{Outcome, IsMade, IsWritten, IsEditOutcome, IsPutOn, IsPutBy, edit_reply, revert_reply, write_reply, IsMove, IsForgetting, IsAdoption, IsChangeOutcome}
-use Rattle.rec_tools.specs.Outcomes.{IsRequestOutcome, printing}
+use Rattle.rec_tools.specs.Requests.{Edits, IsOneEdit, IsBatch, look_of, change_of, asked_of, IsMade, as_diff}
+use Rattle.rec_tools.specs.Asked.{editing, moving, reverting, forgetting, adopting, writing, Telling}
+use Rattle.rec_tools.specs.Reverting.{IsRevertOf, IsReverted}
+use Rattle.rec_tools.specs.Outcomes.{Outcome, IsEditOutcome, IsPutOn, IsPutBy, edit_reply, revert_reply, write_reply, IsMove, IsForgetting, IsAdoption, IsChangeOutcome, IsRequestOutcome}
+use Rattle.rec_tools.specs.Outcomes.{printing}
+use Rattle.rec_tools.specs.Writing.{IsWritten}
 use Rattle.rec_text.proofs.lemmas.FaultLemmas.{ok_is_no_err}
 use Rattle.rec_tools.proofs.lemmas.printing.PutsLemmas.{no_store_then, no_store_text}
 use Rattle.rec_tools.proofs.lemmas.printing.ShowLemmas.{no_store_show}
@@ -52,18 +51,18 @@ never_puts c MakesOf reply_for never =
 
 -- a file that reads
 never_reads : (c : Contents) (MakesOf : Opened → Result (Tool × Edited) Fault → Type 0) (reply_for : Opened → Tool → Edited → Reply)
-    → ((o : Opened) → MakesOf o (Err StoreFailed) → ⊥) → IsPutBy MakesOf reply_for c (Err StoreFailed) → ⊥
+    → ((o : Opened) → MakesOf o (Err StoreFailed) → ⊥) → IsPutBy IsDescribedText MakesOf reply_for c (Err StoreFailed) → ⊥
 never_reads c MakesOf reply_for never =
     no_store_then (IsDescribedText c.file) (λ _. IsPutOn MakesOf reply_for c) (no_store_text c.file) (λ _. never_puts c MakesOf reply_for never)
 
-never_edits : (c : Contents) (IsEdit : Result Edits Fault → Type 0) → (IsEdit (Err StoreFailed) → ⊥) → IsChangeOutcome c (editing IsEdit) (Err StoreFailed) → ⊥
+never_edits : (c : Contents) (IsEdit : Result Edits Fault → Type 0) → (IsEdit (Err StoreFailed) → ⊥) → IsChangeOutcome c (editing IsDescribedText (IsMade IsEdit)) (Err StoreFailed) → ⊥
 never_edits c IsEdit never = never_reads c (λ _. IsMade IsEdit c.file) (λ o. edit_reply o.next o.dropped) (λ o. no_store_made IsEdit never c.file)
 
-never_reverts : (c : Contents) (number : ℕ) (force : Bool) → IsChangeOutcome c (reverting number force) (Err StoreFailed) → ⊥
+never_reverts : (c : Contents) (number : ℕ) (force : Bool) → IsChangeOutcome c (reverting IsDescribedText number (IsReverted force)) (Err StoreFailed) → ⊥
 never_reverts c number force =
-    never_reads c (λ o. IsRevertOf number force o c.file) (λ o. revert_reply number o.next) (λ o. no_store_revert number force o c.file)
+    never_reads c (λ o. IsRevertOf number (IsReverted force) o c.file) (λ o. revert_reply number o.next) (λ o. no_store_revert number force o c.file)
 
-never_writes : (c : Contents) (force : Bool) (over : Option (List ℕ)) (text : List ℕ) → IsChangeOutcome c (writing force over text) (Err StoreFailed) → ⊥
+never_writes : (c : Contents) (force : Bool) (over : Option (List ℕ)) (text : List ℕ) → IsChangeOutcome c (writing (IsWritten force over text)) (Err StoreFailed) → ⊥
 never_writes c force over text =
     never_puts c (λ _. IsWritten force over text c.file) (λ o. write_reply o.next o.dropped) (λ _. no_store_written force over text c.file)
 
@@ -106,14 +105,14 @@ no_store_texts : (number : Option ℕ) (file : List ℕ) (o : Opened) → IsEdit
 no_store_texts number file o (inl drifted) = let e = drifted.0 in cc
 no_store_texts number file o (inr none) = none_such-no_store number none.0
 
-pub no_store_shown : (number : Option ℕ) (style : DiffStyle) (file journal : List ℕ) → IsShownEdit number style file journal (Err StoreFailed) → ⊥
-no_store_shown number style file journal =
-    let diff : WithTexts → Result (List ℕ) Fault → Type 0 = λ made. IsDiff Forward style made.edit.steps made.before made.after in
+pub no_store_shown : (number : Option ℕ) (Tells : Telling) (file journal : List ℕ) → IsShownEdit number Tells file journal (Err StoreFailed) → ⊥
+no_store_shown number Tells file journal =
+    let diff : WithTexts → Result (List ℕ) Fault → Type 0 = λ made. IsTold (Tells Forward made.edit.steps made.before made.after) in
     no_store_then (IsOpening file journal) (λ o. Then (IsEditTexts o file number) diff) (λ h. h) (λ o.
     no_store_then (IsEditTexts o file number) diff (no_store_texts number file o) (λ made h. h))
 
-pub no_store_log : (style : DiffStyle) (file journal : List ℕ) → IsWholeLog style file journal (Err StoreFailed) → ⊥
-no_store_log style file journal = no_store_then (IsOpening file journal) (IsLogOf style file) (λ h. h) (λ o h. let e = h.0 in cc)
+pub no_store_log : (Tells : Telling) (file journal : List ℕ) → IsWholeLog Tells file journal (Err StoreFailed) → ⊥
+no_store_log Tells file journal = no_store_then (IsOpening file journal) (λ o. IsTextWith (history_reply o) (IsLogOf Tells file o)) (λ h. h) (λ o h. let e = h.0 in cc)
 
 -- ---- requests
 
@@ -123,10 +122,10 @@ no_store_look (Info record_type form) c is =
     no_store_then (IsDescribedText c.file) (λ text. IsInfo text.pieces text.schema.sets record_type form) (no_store_text c.file) (λ text. no_store_info text record_type form) is
 no_store_look Check c is = no_store_report c.file is
 no_store_look History c is =
-    no_store_then (IsOpening c.file c.journal) (λ o given. given ≡ Ok (printing (printed_history o) Shown)) (λ h. h)
-    (λ o. ok_is_no_err (printing (printed_history o) Shown) StoreFailed ⊥) is
-no_store_look (Diff number style) c is = no_store_shown number style c.file c.journal is
-no_store_look (Log style) c is = no_store_log style c.file c.journal is
+    no_store_then (IsOpening c.file c.journal) (λ o given. given ≡ Ok (printing (printed_history o) (history_reply o))) (λ h. h)
+    (λ o. ok_is_no_err (printing (printed_history o) (history_reply o)) StoreFailed ⊥) is
+no_store_look (Diff number style) c is = no_store_shown number (as_diff style) c.file c.journal is
+no_store_look (Log style) c is = no_store_log (as_diff style) c.file c.journal is
 
 pub no_store_change : (change : Change) (c : Contents) → IsChangeOutcome c (change_of change) (Err StoreFailed) → ⊥
 no_store_change (Edit edit force) c is = never_edits c (IsOneEdit edit force) (no_store_one edit force) is

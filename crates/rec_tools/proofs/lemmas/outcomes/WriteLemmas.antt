@@ -12,7 +12,7 @@ use Rattle.rec_diff.specs.Comparing.{step_between}
 use Rattle.rec_diff.proofs.lemmas.comparing.StepLemmas.{step_leads, step_is_by, step_is_done}
 use Rattle.rec_check.specs.DescribedTexts.{DescribedText, IsDescribedText}
 use Rattle.rec_edit.specs.Outcome.{IsSoundUnlessForced}
-use Rattle.rec_tools.specs.Outcomes.{IsStill, MayStand, IsWritten, edited_by_lines}
+use Rattle.rec_tools.specs.Writing.{IsStill, MayStand, IsWritten, edited_by_lines}
 use Rattle.rec_tools.specs.proving.Editing.{HasSteps}
 use Rattle.rec_tools.proofs.lemmas.outcomes.AnswerLemmas.{HasOneBut-once_read}
 use Rattle.rec_tools.proofs.lemmas.outcomes.EditLemmas.{no_store_sound}

@@ -1,5 +1,5 @@
 -- The history that is printed: its text, line by line, and what goes out of it.
-use Rattle.std.proofs.Common.{◌≡◌, inl, inr, ℕ, true, false, List, [], ◌∷◌, ◌++◌, map, flat_map, reverse, Option, Result, Ok, Err, sym, ap, ap₂, refl, ◌∙◌, arith}
+use Rattle.std.proofs.Common.{◌≡◌, inl, inr, ℕ, true, false, List, [], ◌∷◌, ◌++◌, map, flat_map, reverse, Option, Result, Ok, Err, sym, ap, ap₂, subst, refl, ◌∙◌, arith}
 use Rattle.std.specs.Prelude.{codes, if◌then◌else◌}
 use Rattle.std.proofs.lemmas.List.{map-append, reverse-append}
 use Rattle.std.proofs.lemmas.List.Folds.{flat_map-map}
@@ -15,11 +15,13 @@ use Rattle.rec_journal.specs.declared.event.Tool.{Tool}
 use Rattle.rec_journal.specs.declared.history.steps.Step.{Step}
 use Rattle.rec_journal.specs.History.{Opened, IsOpening}
 use Rattle.rec_journal.specs.Listing.{step_of, steps_of}
+use Rattle.rec_tools.specs.declared.request.Reply.{Reply}
 use Rattle.rec_tools.specs.declared.request.Reply.TheVariants.{Shown}
 use Rattle.rec_tools.specs.proving.Listed.{line_of}
-use Rattle.rec_tools.specs.Printouts.{step_line, history_text, printed_history, IsHistory, IsShownText, PutsPrintout}
-use Rattle.rec_text.proofs.lemmas.FaultLemmas.{memory_or_weaker, ok_is_no_err}
-use Rattle.rec_tools.proofs.lemmas.printing.PutsLemmas.{PutsPrintout-err_shown, refused_before, refused_within, no_store_then}
+use Rattle.rec_tools.specs.Printouts.{step_line, history_text, printed_history, history_reply, IsHistory, IsShownText, PutsPrintout}
+use Rattle.rec_tools.specs.Asked.{Printout}
+use Rattle.rec_text.proofs.lemmas.FaultLemmas.{memory_or_weaker, no_both, ok_is_no_err, same_value}
+use Rattle.rec_tools.proofs.lemmas.printing.PutsLemmas.{HaveReplies, PutsPrintout-err, refused_before, refused_within, no_store_then}
 
 -- ---- the text
 
@@ -64,27 +66,52 @@ module _ {S : Type 0} {contents : S → Option (List ℕ)} {failures : S → ℕ
 
 -- ---- what goes out of a history
 
+abbrev listed : Opened → Printout
+listed o = record { text = printed_history o; reply = history_reply o }
+
 module _ {S : Type 0} {contents : S → Option (List ℕ)} {failures : S → ℕ} (file journal : List ℕ) where
   pub history-refused : (out : S) (fault : Fault) → IsMemoryOr fault (IsOpening file journal (Err fault))
-      → PrintsAndCounts contents failures out out (PutsPrintout (IsShownText (IsHistory file journal))) (Err fault)
+      → PrintsAndCounts contents failures out out (PutsPrintout (IsHistory file journal)) (Err fault)
   history-refused out fault h =
-      refused_before (IsShownText (IsHistory file journal)) out fault
-      (no_store_then (IsOpening file journal) (λ o answer. answer ≡ Ok (printed_history o)) (λ h. h) (λ o e. ok_is_no_err (printed_history o) StoreFailed ⊥ e))
+      refused_before (IsHistory file journal) out fault
+      (no_store_then (IsOpening file journal) (λ o answer. answer ≡ Ok (listed o)) (λ h. h) (λ o e. ok_is_no_err (listed o) StoreFailed ⊥ e))
       (memory_or_weaker fault _ _ (λ refused. inl (fault, refused, refl)) h)
 
--- ---- what goes out of a text that is shown
+-- ---- what goes out of a text with its reply
 
-module _ {S : Type 0} {contents : S → Option (List ℕ)} {failures : S → ℕ} {old new : S} (IsText : Result (List ℕ) Fault → Type 0) (text : List ℕ) (is : IsText (Ok text)) where
-  pub shown-cut_short : {fault : Fault} → HasStopped contents failures old new text fault → PrintsAndCounts contents failures old new (PutsPrintout (IsShownText IsText)) (Err fault)
-  shown-cut_short {fault} stopped =
+-- it is this text that went out
+abbrev IsAllOf : List ℕ → Result (List ℕ) Fault → Type 0
+IsAllOf text answer = answer ≡ Ok text
+
+reply_of_all : (IsPrintout : Result Printout Fault → Type 0) (text : List ℕ) (reply : Reply) → IsPrintout (Ok (record { text = text; reply = reply }))
+    → HaveReplies (IsAllOf text) IsPrintout
+reply_of_all IsPrintout text reply is other e =
+    (reply, subst (λ xs. IsPrintout (Ok (record { text = xs; reply = reply }))) (sym (same_value other text e)) is)
+
+no_refusal_of_all : (IsPrintout : Result Printout Fault → Type 0) (text : List ℕ) (fault : Fault) → IsAllOf text (Err fault) → IsPrintout (Err fault)
+no_refusal_of_all IsPrintout text fault e = absurd (no_both text fault (sym e))
+
+module _ {S : Type 0} {contents : S → Option (List ℕ)} {failures : S → ℕ} {old new : S}
+    (IsPrintout : Result Printout Fault → Type 0) (text : List ℕ) (reply : Reply) (is : IsPrintout (Ok (record { text = text; reply = reply }))) where
+  pub printout-cut_short : {fault : Fault} → HasStopped contents failures old new text fault → PrintsAndCounts contents failures old new (PutsPrintout IsPrintout) (Err fault)
+  printout-cut_short {fault} stopped =
       refused_within
-      (PrintsAndCounts-prints {X = Unit {0}} contents failures old new text IsText is (Err fault) stopped)
-      (PutsPrintout-err_shown (Unit {0}) IsText IsText (contents old) (contents new) fault (λ r h. h))
+      (PrintsAndCounts-prints {X = Unit {0}} contents failures old new text (IsAllOf text) refl (Err fault) stopped)
+      (PutsPrintout-err (Unit {0}) (IsAllOf text) IsPrintout (contents old) (contents new) fault
+      (reply_of_all IsPrintout text reply is) (no_refusal_of_all IsPrintout text))
 
-  pub shown-whole : HasTaken contents failures old new text → PrintsAndCounts contents failures old new (PutsPrintout (IsShownText IsText)) (Ok Shown)
-  shown-whole taken = record {
-    printed = (text, (is, refl), taken.whole);
+  pub printout-whole : HasTaken contents failures old new text → PrintsAndCounts contents failures old new (PutsPrintout IsPrintout) (Ok reply)
+  printout-whole taken = record {
+    printed = (text, is, taken.whole);
     counted = omega (arith, taken.sound);
     told = inr taken.sound;
     store_failed = λ failed. cc;
   }
+
+-- the same of one that is shown
+module _ {S : Type 0} {contents : S → Option (List ℕ)} {failures : S → ℕ} {old new : S} (IsText : Result (List ℕ) Fault → Type 0) (text : List ℕ) (is : IsText (Ok text)) where
+  pub shown-cut_short : {fault : Fault} → HasStopped contents failures old new text fault → PrintsAndCounts contents failures old new (PutsPrintout (IsShownText IsText)) (Err fault)
+  shown-cut_short stopped = printout-cut_short (IsShownText IsText) text Shown (is, refl) stopped
+
+  pub shown-whole : HasTaken contents failures old new text → PrintsAndCounts contents failures old new (PutsPrintout (IsShownText IsText)) (Ok Shown)
+  shown-whole taken = printout-whole (IsShownText IsText) text Shown (is, refl) taken

@@ -1,6 +1,5 @@
 -- What edits made, as it is printed: there is one text, and it goes out edit by edit.
 use Rattle.std.proofs.Common.{◌≡◌, inl, inr, ℕ, ◌+◌, ◌<◌, List, [], ◌∷◌, ◌++◌, length, map, reverse, Option, Some, None, Result, Ok, Err, arith, ap, ap₂, sym, subst, refl, ◌∙◌, append_assoc}
-use Rattle.std.proofs.Common.{append-nil}
 use Rattle.std.specs.List.{AllByRecursion}
 use Rattle.std.specs.Io.KnownBytes.{Appends}
 use Rattle.std.proofs.KnownBytes.{Appends-nil, Appends-kept}
@@ -16,23 +15,32 @@ use Rattle.rec_journal.specs.History.{Opened}
 use Rattle.rec_journal.specs.Revisions.{Leads}
 use Rattle.rec_select.specs.Taken.{HasTaken, HasStopped, Prints, PrintsAndCounts, Puts}
 use Rattle.rec_diff.specs.declared.style.DiffStyle.{DiffStyle}
-use Rattle.rec_diff.specs.Diffs.{IsDiff}
 use Rattle.rec_diff.proofs.lemmas.DiffLemmas.{one_diff, some_diff}
 use Rattle.rec_tools.specs.Printouts.{Told, told_of, IsLog, step_line, word_of}
 use Rattle.rec_tools.specs.proving.Logs.{HasSteps, HaveSteps, IsLogged, left_over}
-use Rattle.rec_select.proofs.lemmas.info.InfoLemmas.{IsTakenTo, IsTakenTo-none, IsTakenTo-more, IsTakenTo-stopped, IsTakenTo-all}
+use Rattle.rec_select.proofs.lemmas.info.InfoLemmas.{IsTakenTo, IsTakenTo-more, IsTakenTo-stopped, IsTakenTo-all}
 use Rattle.rec_text.proofs.lemmas.FaultLemmas.{ok_is_no_err, same_fault}
 use Rattle.rec_text.proofs.lemmas.ListLemmas.{AllByRecursion-append}
 use Rattle.rec_journal.proofs.lemmas.plans.ReplayLemmas.{AllByRecursion-reverse}
+use Rattle.rec_tools.specs.Asked.{Telling}
+use Rattle.rec_tools.specs.Requests.{as_diff}
 
 -- ---- there is one log
 
-pub one_log : (style : DiffStyle) (edits : List Told) (one other : List ℕ) → IsLog style edits one → IsLog style edits other → one ≡ other
-one_log style [] one other is is_too = is ∙ sym is_too
-one_log style (e ∷ edits) one other (diff, rest, is, log, joined) (also, others, is_too, log_too, joined_too) =
+-- of an edit one text is printed
+abbrev pub TellsOne : Telling → Type 0
+TellsOne Tells = (direction : Direction) (steps : List EditStep) (here there one other : List ℕ)
+    → Tells direction steps here there one → Tells direction steps here there other → one ≡ other
+
+pub one_as_diff : (style : DiffStyle) → TellsOne (as_diff style)
+one_as_diff style direction steps here there one other is is_too = one_diff direction style steps here there one other is is_too
+
+pub one_log : (Tells : Telling) → TellsOne Tells → (edits : List Told) (one other : List ℕ) → IsLog Tells edits one → IsLog Tells edits other → one ≡ other
+one_log Tells tells [] one other is is_too = is ∙ sym is_too
+one_log Tells tells (e ∷ edits) one other (diff, rest, is, log, joined) (also, others, is_too, log_too, joined_too) =
     joined
-    ∙ ap₂ (λ d r. step_line (word_of e.done) (e.number, e.tool) ++ (d ++ r)) (one_diff Forward style e.steps e.before e.after diff also is is_too)
-    (one_log style edits rest others log log_too)
+    ∙ ap₂ (λ d r. step_line (word_of e.done) (e.number, e.tool) ++ (d ++ r)) (tells Forward e.steps e.before e.after diff also is is_too)
+    (one_log Tells tells edits rest others log log_too)
     ∙ sym joined_too
 
 -- ---- the edits have their steps
@@ -60,7 +68,7 @@ walk_has_steps o file walk (settled, all, are, goes) = (all, goes, texts_have_st
 
 -- ---- so there is a log
 
-pub some_log : (style : DiffStyle) (all : List WithTexts) → AllByRecursion HasSteps all → (text : List ℕ) × IsLog style (map told_of all) text
+pub some_log : (style : DiffStyle) (all : List WithTexts) → AllByRecursion HasSteps all → (text : List ℕ) × IsLog (as_diff style) (map told_of all) text
 some_log style [] steps = ([], refl)
 some_log style (made ∷ all) steps =
     let diff = some_diff Forward style made.edit.steps made.before made.after steps.0 in
@@ -100,18 +108,18 @@ module _ {S X : Type 0} (contents : S → Option (List ℕ)) (failures : S → �
 
 -- of each log of the edits of a walk, what is left is that of another walk
 abbrev pub IsPrintedTo : {S : Type 0} → (S → Option (List ℕ)) → (S → ℕ) → S → S → DiffStyle → Option WalkAt → Option WalkAt → Type 0
-IsPrintedTo contents failures old new style start walk = (all : List WithTexts) (text : List ℕ) → GoesOver start all → IsLog style (map told_of all) text
-    → (left : List WithTexts) × (rest : List ℕ) × GoesOver walk left × IsLog style (map told_of left) rest × IsTakenTo contents failures old new text rest
+IsPrintedTo contents failures old new style start walk = (all : List WithTexts) (text : List ℕ) → GoesOver start all → IsLog (as_diff style) (map told_of all) text
+    → (left : List WithTexts) × (rest : List ℕ) × GoesOver walk left × IsLog (as_diff style) (map told_of left) rest × IsTakenTo contents failures old new text rest
 
 -- a log of some edits, of which the first is known
 record BeginsWith (style : DiffStyle) (made : WithTexts) (others : List WithTexts) (text : List ℕ) : Type 0 where
   first : List ℕ
   rest : List ℕ
   is_first : IsLogged style made first
-  is_rest : IsLog style (map told_of others) rest
+  is_rest : IsLog (as_diff style) (map told_of others) rest
   parts : text ≡ first ++ rest
 
-log_parts : (style : DiffStyle) (made : WithTexts) (others : List WithTexts) (text : List ℕ) → IsLog style (map told_of (made ∷ others)) text → BeginsWith style made others text
+log_parts : (style : DiffStyle) (made : WithTexts) (others : List WithTexts) (text : List ℕ) → IsLog (as_diff style) (map told_of (made ∷ others)) text → BeginsWith style made others text
 log_parts style made others text (diff, rest, is, log, e) =
     let line = step_line (word_of made.done) (made.edit.number, made.edit.tool) in
     record { first = line ++ diff; rest = rest; is_first = (diff, is, refl); is_rest = log; parts = e ∙ sym (append_assoc line diff rest) }
@@ -125,22 +133,22 @@ module _ {S : Type 0} {contents : S → Option (List ℕ)} {failures : S → ℕ
 
   module _ {old mid : S} (style : DiffStyle) (start : Option WalkAt) (walk : WalkAt) (so_far : IsPrintedTo contents failures old mid style start (Some walk)) where
     -- the log of each edit from here on
-    here : (all : List WithTexts) (text : List ℕ) → GoesOver start all → IsLog style (map told_of all) text
+    here : (all : List WithTexts) (text : List ℕ) → GoesOver start all → IsLog (as_diff style) (map told_of all) text
         → (others : List WithTexts) × (now : List ℕ) × GoOn walk.left walk.at.after others × BeginsWith style walk.at others now × IsTakenTo contents failures old mid text now
     here all text goes log =
         let (left, now, (others, is, on), log_now, taken) = so_far all text goes log in
-        (others, now, on, log_parts style walk.at others now (subst (λ es. IsLog style (map told_of es) now) is log_now), taken)
+        (others, now, on, log_parts style walk.at others now (subst (λ es. IsLog (as_diff style) (map told_of es) now) is log_now), taken)
 
     module _ {new : S} where
-      pub line-stopped : (all : List WithTexts) (text : List ℕ) → GoesOver start all → IsLog style (map told_of all) text → (fault : Fault)
+      pub line-stopped : (all : List WithTexts) (text : List ℕ) → GoesOver start all → IsLog (as_diff style) (map told_of all) text → (fault : Fault)
           → ((first : List ℕ) → IsLogged style walk.at first → HasStopped contents failures mid new first fault) → HasStopped contents failures old new text fault
       line-stopped all text goes log fault stopped =
           let (others, now, on, begins, taken) = here all text goes log in
           IsTakenTo-stopped begins.first begins.rest taken begins.parts (stopped begins.first begins.is_first)
 
       line-taken : ((first : List ℕ) → IsLogged style walk.at first → HasTaken contents failures mid new first)
-          → (all : List WithTexts) (text : List ℕ) → GoesOver start all → IsLog style (map told_of all) text
-          → (others : List WithTexts) × (rest : List ℕ) × GoOn walk.left walk.at.after others × IsLog style (map told_of others) rest × IsTakenTo contents failures old new text rest
+          → (all : List WithTexts) (text : List ℕ) → GoesOver start all → IsLog (as_diff style) (map told_of all) text
+          → (others : List WithTexts) × (rest : List ℕ) × GoOn walk.left walk.at.after others × IsLog (as_diff style) (map told_of others) rest × IsTakenTo contents failures old new text rest
       line-taken printed all text goes log =
           let (others, now, on, begins, taken) = here all text goes log in
           (others, begins.rest, on, begins.is_rest, IsTakenTo-more begins.first begins.rest taken begins.parts (printed begins.first begins.is_first))
@@ -152,16 +160,16 @@ module _ {S : Type 0} {contents : S → Option (List ℕ)} {failures : S → ℕ
           (others, rest, goes_on others on, log_rest, taken)
 
       pub next-stopped : (fault : Fault) → fault ≡ OutOfMemory → ((first : List ℕ) → IsLogged style walk.at first → HasTaken contents failures mid new first)
-          → (all : List WithTexts) (text : List ℕ) → GoesOver start all → IsLog style (map told_of all) text → HasStopped contents failures old new text fault
+          → (all : List WithTexts) (text : List ℕ) → GoesOver start all → IsLog (as_diff style) (map told_of all) text → HasStopped contents failures old new text fault
       next-stopped fault e printed all text goes log =
           let (others, rest, on, log_rest, taken) = line-taken printed all text goes log in
           stopped_after fault e taken
 
   pub all_printed : {old new : S} (style : DiffStyle) (start : Option WalkAt) → IsPrintedTo contents failures old new style start None
-      → (all : List WithTexts) (text : List ℕ) → GoesOver start all → IsLog style (map told_of all) text → HasTaken contents failures old new text
+      → (all : List WithTexts) (text : List ℕ) → GoesOver start all → IsLog (as_diff style) (map told_of all) text → HasTaken contents failures old new text
   all_printed style start so_far all text goes log =
       let (left, rest, none, log_rest, taken) = so_far all text goes log in
-      IsTakenTo-all taken (subst (λ es. IsLog style (map told_of es) rest) none log_rest)
+      IsTakenTo-all taken (subst (λ es. IsLog (as_diff style) (map told_of es) rest) none log_rest)
 
 -- the edits after the first of a walk have their steps
 pub next_have_steps : (walk : WalkAt) (next : Option WalkAt) → ((others : List WithTexts) → GoOn walk.left walk.at.after others → GoesOver next others)

@@ -12,7 +12,8 @@ use Rattle.rec_select.specs.Taken.{PrintsAndCounts, Puts}
 use Rattle.rec_tools.specs.declared.request.Reply.{Reply}
 use Rattle.rec_tools.specs.declared.request.Reply.TheVariants.{Shown}
 use Rattle.rec_check.specs.DescribedTexts.{DescribedText, AreDescribed, IsDescribedText}
-use Rattle.rec_tools.specs.Printouts.{Printout, PutsPrintout, IsShownText}
+use Rattle.rec_tools.specs.Printouts.{PutsPrintout, IsShownText, IsTextWith}
+use Rattle.rec_tools.specs.Asked.{Printout}
 use Rattle.rec_tools.specs.Steps.{Then}
 use Rattle.rec_text.proofs.lemmas.FaultLemmas.{ok_is_no_err, same_fault}
 
@@ -54,10 +55,10 @@ PutsPrintout-weaker P Q old new (Err OutOfMemory) f (inr h) = inr (h.0, f _ h.1,
 PutsPrintout-weaker P Q old new (Err StoreFailed) f h = (h.0, f _ h.1, h.2)
 PutsPrintout-weaker P Q old new (Err _) f h = (f _ h.0, h.1)
 
--- the same of a text that is shown
-pub IsShownText-weaker : (P Q : IsText) → ((r : Result (List ℕ) Fault) → P r → Q r) → (r : Result Printout Fault) → IsShownText P r → IsShownText Q r
-IsShownText-weaker P Q f (Ok p) h = (f _ h.0, h.1)
-IsShownText-weaker P Q f (Err fault) h = f _ h
+-- the same of a text with a reply
+pub IsTextWith-weaker : (reply : Reply) (P Q : IsText) → ((r : Result (List ℕ) Fault) → P r → Q r) → (r : Result Printout Fault) → IsTextWith reply P r → IsTextWith reply Q r
+IsTextWith-weaker reply P Q f (Ok p) h = (f _ h.0, h.1)
+IsTextWith-weaker reply P Q f (Err fault) h = f _ h
 
 -- ---- the same, and how the count of the sink's failures stands
 

@@ -16,8 +16,10 @@ use Rattle.rec_journal.proofs.lemmas.histories.Countings.{Opens-digest, bytes_ap
 use Rattle.rec_journal.proofs.lemmas.histories.Openings.{one_opening}
 use Rattle.rec_journal.proofs.lemmas.plans.EndingLemmas.{undrifted_is_end}
 use Rattle.rec_tools.specs.Home.{Contents, written}
-use Rattle.rec_tools.specs.Outcomes.{Outcome, Adopts, edited_by_lines}
-use Rattle.rec_tools.specs.Machine.{State, AreEntries, Stands, state_after_edit}
+use Rattle.rec_tools.specs.Outcomes.{Outcome, Adopts}
+use Rattle.rec_tools.specs.Writing.{edited_by_lines}
+use Rattle.rec_tools.specs.Stands.{AreEntries, Stands}
+use Rattle.rec_tools.specs.States.{State, state_after_edit}
 use Rattle.rec_tools.specs.Laws.{Collide, IsChangedOutside, AdoptedIsAnEdit}
 use Rattle.rec_tools.proofs.lemmas.machine.StandsLemmas.{StandsBy, stands_by}
 use Rattle.rec_tools.proofs.lemmas.outcomes.OpeningLemmas.{edit_leads_back}

@@ -20,7 +20,8 @@ use Rattle.rec_journal.proofs.lemmas.histories.Openings.{one_opening}
 use Rattle.rec_journal.proofs.lemmas.patches.StepLemmas.{Leads-steps, Leads-there}
 use Rattle.rec_journal.proofs.lemmas.texts.OverLemmas.{LeadOver-append}
 use Rattle.rec_journal.proofs.lemmas.texts.ReachLemmas.{same_is_end, found_or_refused}
-use Rattle.rec_tools.specs.Machine.{Entry, State, AreEntries}
+use Rattle.rec_tools.specs.Stands.{AreEntries}
+use Rattle.rec_tools.specs.States.{Entry, State}
 use Rattle.rec_tools.specs.Laws.{Collide, HasText, IsTextIn, AnyTextWillDo}
 use Rattle.rec_tools.proofs.lemmas.machine.StandsLemmas.{stands_by}
 use Rattle.rec_tools.proofs.lemmas.runs.AdoptedLemmas.{same_history}

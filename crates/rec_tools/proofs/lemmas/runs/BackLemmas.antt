@@ -16,9 +16,10 @@ use Rattle.rec_journal.proofs.lemmas.plans.PlanLemmas.{one_move_plan}
 use Rattle.rec_edit.specs.declared.answer.Edited.{Edited}
 use Rattle.rec_tools.specs.declared.request.Reply.{Reply}
 use Rattle.rec_tools.specs.Home.{Contents, written}
-use Rattle.rec_tools.specs.Requests.{AskedChange, editing, moving, reverting, forgetting, adopting, writing, change_of}
+use Rattle.rec_tools.specs.Requests.{change_of}
+use Rattle.rec_tools.specs.Asked.{AskedChange, editing, moving, reverting, forgetting, adopting, writing}
 use Rattle.rec_tools.specs.Reverting.{IsRevertOf}
-use Rattle.rec_tools.specs.Outcomes.{Outcome, IsMade, IsWritten, IsPutOn, edit_reply, revert_reply, write_reply, IsChangeOutcome}
+use Rattle.rec_tools.specs.Outcomes.{Outcome, IsPutOn, edit_reply, revert_reply, write_reply, IsChangeOutcome}
 use Rattle.rec_tools.proofs.lemmas.outcomes.FromLemmas.{put_on}
 use Rattle.rec_tools.specs.Laws.{MadeAnEdit, BringsBack, UndoBringsBack, RedoBringsBack}
 use Rattle.rec_text.proofs.lemmas.FaultLemmas.{no_both, ok_is_no_err, same_value}
@@ -81,14 +82,14 @@ undo_after_redo c through redone (inr (o, opens, (settled, here, m))) =
 
 undo_after : (c : Contents) (change : AskedChange) (done : Outcome) → done.writes ≢ [] → MadeAnEdit done.reply → IsChangeOutcome c change (Ok done)
     → BringsBack (written c done.writes) (moving Backward None) c.file
-undo_after c (editing IsEdit) done written_some made is =
-    undo_after_put c (λ _. IsMade IsEdit c.file) (λ o. edit_reply o.next o.dropped) done written_some
-    (put_on c (λ _. IsMade IsEdit c.file) (λ o. edit_reply o.next o.dropped) done is)
-undo_after c (reverting number force) done written_some made is =
-    undo_after_put c (λ o. IsRevertOf number force o c.file) (λ o. revert_reply number o.next) done written_some
-    (put_on c (λ o. IsRevertOf number force o c.file) (λ o. revert_reply number o.next) done is)
-undo_after c (writing force over text) done written_some made is =
-    undo_after_put c (λ _. IsWritten force over text c.file) (λ o. write_reply o.next o.dropped) done written_some is
+undo_after c (editing Reads Makes) done written_some made is =
+    undo_after_put c (λ _. Makes c.file) (λ o. edit_reply o.next o.dropped) done written_some
+    (put_on Reads c (λ _. Makes c.file) (λ o. edit_reply o.next o.dropped) done is)
+undo_after c (reverting Reads number Reverts) done written_some made is =
+    undo_after_put c (λ o. IsRevertOf number Reverts o c.file) (λ o. revert_reply number o.next) done written_some
+    (put_on Reads c (λ o. IsRevertOf number Reverts o c.file) (λ o. revert_reply number o.next) done is)
+undo_after c (writing Makes) done written_some made is =
+    undo_after_put c (λ _. Makes c.file) (λ o. write_reply o.next o.dropped) done written_some is
 undo_after c (moving Forward through) done written_some made is = undo_after_redo c through done is
 undo_after c (moving Backward through) done written_some made (inl (fault, refused, e)) = absurd (no_both done fault e)
 undo_after c (moving Backward through) done written_some made (inr (o, opens, (settled, here, m))) = absurd (subst (λ (x : Outcome). MadeAnEdit x.reply) m.is made)

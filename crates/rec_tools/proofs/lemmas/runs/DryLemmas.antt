@@ -1,12 +1,11 @@
 -- Dry runs of moves through the edit of a number: the previews so far, and the machine's steps.
-use Rattle.std.proofs.Common.{◌≡◌, ◌∙◌, inl, inr, ℕ, ◌≤◌, Bool, true, false, Option, Some, None, List, [], ◌∷◌, ◌++◌, Result, Ok, Err, ap, sym, subst, refl, arith, append_assoc}
+use Rattle.std.proofs.Common.{◌≡◌, ◌∙◌, inl, inr, ℕ, ◌≤◌, true, false, Option, Some, None, List, [], ◌∷◌, ◌++◌, Result, Ok, Err, ap, sym, subst, refl, arith}
 use Rattle.std.specs.Prelude.{IfOk, IfSome}
 use Rattle.std.specs.List.{AllByRecursion}
 use Rattle.std.specs.Option.{option_or}
-use Rattle.std.proofs.KnownBytes.{Appends-nil}
 use Rattle.rec_text.specs.declared.fault.Fault.{Fault}
 use Rattle.rec_text.specs.declared.fault.Fault.TheVariants.{OutOfMemory, StoreFailed}
-use Rattle.rec_text.proofs.lemmas.FaultLemmas.{no_both, same_value}
+use Rattle.rec_text.proofs.lemmas.FaultLemmas.{no_both}
 use Rattle.rec_journal.specs.declared.patch.Direction.{Direction}
 use Rattle.rec_diff.specs.declared.style.DiffStyle.{DiffStyle}
 use Rattle.rec_select.specs.Taken.{PrintsAndCounts}
@@ -14,15 +13,18 @@ use Rattle.rec_tools.specs.declared.home.Which.TheVariants.{Base as TheFile, Jou
 use Rattle.rec_tools.specs.declared.decision.Decision.{Decision}
 use Rattle.rec_tools.specs.declared.request.Reply.{Reply}
 use Rattle.rec_tools.specs.declared.through.Through.{Through}
-use Rattle.rec_tools.specs.Home.{Contents, Call, got, left_by, left_by_all, TellsOf, TellAll, Went, written}
-use Rattle.rec_tools.specs.Printouts.{Printed, WentOut, IsBoth, IsSilence, PutsPrintout}
-use Rattle.rec_tools.specs.Requests.{AskedChange, moving, Asked, previewing, change_of}
+use Rattle.rec_tools.specs.Home.{Contents, Call, left_by, left_by_all, TellsOf, TellAll, written}
+use Rattle.rec_tools.specs.Printouts.{Printed, WentOut, IsBoth, PutsPrintout}
+use Rattle.rec_tools.specs.Requests.{change_of, as_diff}
+use Rattle.rec_tools.specs.Asked.{AskedChange, moving, Asked, previewing}
 use Rattle.rec_tools.specs.Outcomes.{Outcome, IsChangeOutcome, IsRequestOutcome, outcome_of, reply_in}
-use Rattle.rec_tools.specs.Attempts.{Answer, StopsReading, AreRead, Does, gots}
-use Rattle.rec_tools.specs.Machine.{State, IsChangeStep, IsMachineStep, Stands}
-use Rattle.rec_tools.specs.Through.{move_through, moved_by, leads_on, LeadThrough, EndsThrough, StepsAgain, IsThrough, answers_of}
-use Rattle.rec_tools.specs.Through.{WouldLeave, PreviewsAgain, PreviewsRead, PreviewsThrough, PreviewSteps}
-use Rattle.rec_tools.specs.proving.Courses.{contents, IsPreviewed, replied}
+use Rattle.rec_tools.specs.Attempts.{Answer, AreRead, Does, gots}
+use Rattle.rec_tools.specs.Machine.{IsChangeStep, IsMachineStep}
+use Rattle.rec_tools.specs.Stands.{Stands}
+use Rattle.rec_tools.specs.States.{State}
+use Rattle.rec_tools.specs.Through.{move_through, moved_by, leads_on, LeadThrough, EndsThrough, StepsAgain, IsThrough, answers_of, WouldLeave, PreviewsAgain, PreviewsRead, PreviewsThrough}
+use Rattle.rec_tools.specs.Through.{PreviewSteps}
+use Rattle.rec_tools.specs.proving.Courses.{contents, IsPreviewed}
 use Rattle.rec_tools.specs.proving.Moving.{IsDryMove, GoesDry}
 use Rattle.rec_tools.specs.proving.Silently.{ByCalls}
 use Rattle.rec_tools.proofs.lemmas.calls.CallLemmas.{Follows, contents_follow}
@@ -43,7 +45,7 @@ module _ {S : Type 0} (told : S → Option (List ℕ)) (failures : S → ℕ) (s
   previewed_so : (d : Contents) (answer : Answer) → PrintsAndCounts told failures out now (PutsPrintout (IsPreviewed style f j change)) answer
       → IfOk answer (λ reply. WouldLeave (contents file journal) change reply d) → IsDryMove told failures style change (contents file journal) d out now answer
   previewed_so d answer wrote leaves =
-      let (p, went_out, done) = does-both told failures (previewing style change) (λ f j. IsPreviewed style f j change) refl (previewed-outcome style change)
+      let (p, went_out, done) = does-both told failures (previewing (as_diff style) change) (λ f j. IsPreviewed style f j change) refl (previewed-outcome style change)
       out now file journal f j answer same same_too wrote in
       (p, went_out, omega (arith, wrote.counted, went_out.1, went_out.2), done, leaves)
 
@@ -74,14 +76,14 @@ PreviewsAgain-counted style change c (answer ∷ answers) p last (d, first, rest
 
 PreviewsAgain-more : (style : DiffStyle) (change : AskedChange) (c mid last : Contents) (answers : List Answer) (answer : Answer) (p so_far next : Printed)
     → IsBoth p so_far next → next.before ≤ next.after → PreviewsAgain style change c answers so_far mid
-    → Does mid (previewing style change) answer (gots mid (TheFile ∷ TheJournal ∷ [])) next → IfOk answer (λ reply. WouldLeave mid change reply last)
+    → Does mid (previewing (as_diff style) change) answer (gots mid (TheFile ∷ TheJournal ∷ [])) next → IfOk answer (λ reply. WouldLeave mid change reply last)
     → PreviewsAgain style change c (answers ++ answer ∷ []) p last
 PreviewsAgain-more style change c mid last [] answer p so_far next parts le (nothing, here) does leaves = (
   last,
   next,
   silence next.after,
   IsBoth-silence_first p so_far next parts nothing le,
-  subst (λ x. Does x (previewing style change) answer (gots x (TheFile ∷ TheJournal ∷ [])) next) here does,
+  subst (λ x. Does x (previewing (as_diff style) change) answer (gots x (TheFile ∷ TheJournal ∷ [])) next) here does,
   subst (λ x. IfOk answer (λ reply. WouldLeave x change reply last)) here leaves,
   ((refl, refl), refl),
 )
@@ -174,15 +176,15 @@ module _ (style : DiffStyle) (direction : Direction) (number : ℕ) where
   moves = moving direction (Some number)
 
   -- the preview of a move that isn't refused, and the move
-  one_step : (c d : Contents) (s : State) (reply : Reply) (calls : List Call) (p : Printed) → Stands c s → Does c (previewing style moves) (Ok reply) calls p → WouldLeave c moves reply d
-      → (mid : State) × IsMachineStep s (previewing style moves) (Ok reply) p.text s × IsChangeStep s moves (Ok reply) mid × Stands d mid
+  one_step : (c d : Contents) (s : State) (reply : Reply) (calls : List Call) (p : Printed) → Stands c s → Does c (previewing (as_diff style) moves) (Ok reply) calls p → WouldLeave c moves reply d
+      → (mid : State) × IsMachineStep s (previewing (as_diff style) moves) (Ok reply) p.text s × IsChangeStep s moves (Ok reply) mid × Stands d mid
   one_step c d s reply calls p stands does (would, is, e, left) =
-      let (o, outcome, same, printed) = previewed_whole c (previewing style moves) reply calls p does in
-      let (t, (next, step, diff, stays), stood) = outcomes_are_steps c s (previewing style moves) (Ok o) stands outcome in
+      let (o, outcome, same, printed) = previewed_whole c (previewing (as_diff style) moves) reply calls p does in
+      let (t, (next, step, diff, stays), stood) = outcomes_are_steps c s (previewing (as_diff style) moves) (Ok o) stands outcome in
       let (mid, moved, stands_then) = changes_are_steps c s moves (Ok would) stands is in (
         mid,
-        subst (λ a. IsMachineStep s (previewing style moves) a p.text s) (sym same)
-            (subst (λ text. IsMachineStep s (previewing style moves) (Ok o.reply) text s) (sym printed) (next, step, diff, refl)),
+        subst (λ a. IsMachineStep s (previewing (as_diff style) moves) a p.text s) (sym same)
+            (subst (λ text. IsMachineStep s (previewing (as_diff style) moves) (Ok o.reply) text s) (sym printed) (next, step, diff, refl)),
         subst (λ r. IsChangeStep s moves (Ok r) mid) (sym e) moved.0,
         subst (λ x. Stands x mid) (sym left) stands_then,
       )
@@ -191,8 +193,8 @@ module _ (style : DiffStyle) (direction : Direction) (number : ℕ) where
       → (t : State) × PreviewSteps style s moves answers p.text t
   all_steps c last s [] p stands are done = (s, (done.0.0, refl))
   all_steps c last s (answer ∷ answers) p stands (is, are) (d, first, rest, parts, does, leaves, done) =
-      let does_so : Does c (previewing style moves) (Ok is.0) (gots c (TheFile ∷ TheJournal ∷ [])) first =
-      subst (λ a. Does c (previewing style moves) a (gots c (TheFile ∷ TheJournal ∷ [])) first) is.1 does in
+      let does_so : Does c (previewing (as_diff style) moves) (Ok is.0) (gots c (TheFile ∷ TheJournal ∷ [])) first =
+      subst (λ a. Does c (previewing (as_diff style) moves) a (gots c (TheFile ∷ TheJournal ∷ [])) first) is.1 does in
       let leaves_so : WouldLeave c moves is.0 d = subst (λ a. IfOk a (λ reply. WouldLeave c moves reply d)) is.1 leaves in
       let (mid, shown, moved, stands_then) = one_step c d s is.0 (gots c (TheFile ∷ TheJournal ∷ [])) first stands does_so leaves_so in
       let (t, others) = all_steps d last mid answers rest stands_then are done in (
@@ -202,7 +204,7 @@ module _ (style : DiffStyle) (direction : Direction) (number : ℕ) where
           first.text,
           rest.text,
           parts.0,
-          subst (λ a. IsMachineStep s (previewing style moves) a first.text s) (sym is.1) shown,
+          subst (λ a. IsMachineStep s (previewing (as_diff style) moves) a first.text s) (sym is.1) shown,
           subst (λ a. IsChangeStep s moves a mid) (sym is.1) moved,
           others,
         ),

@@ -5,10 +5,14 @@ use Rattle.rec_journal.specs.History.{IsRegular}
 use Rattle.rec_tools.specs.declared.request.Request.{Request}
 use Rattle.rec_tools.specs.Home.{Contents, written, Call, left_by_all, TellAll, HasFailed}
 use Rattle.rec_tools.specs.Printouts.{Printed}
-use Rattle.rec_tools.specs.Requests.{Asked, asked_of, reads_of}
+use Rattle.rec_tools.specs.Requests.{asked_of}
+use Rattle.rec_tools.specs.Asked.{Asked, reads_of}
 use Rattle.rec_tools.specs.Outcomes.{Outcome, IsRequestOutcome}
 use Rattle.rec_tools.specs.Attempts.{Answer, gots, StopsWriting, IsAnswered, IsPrefix, IsUnread, RanShort, IsRefused, StopsPrinting, IsCarriedOut, Does, AttemptsAll}
-use Rattle.rec_tools.specs.Machine.{State, IsMachineStep, IsMachinePrefix, IsOldOrNext, IsAnswer, Stands}
+use Rattle.rec_tools.specs.Machine.{IsMachineStep}
+use Rattle.rec_tools.specs.Stands.{Stands}
+use Rattle.rec_tools.specs.Answers.{IsMachinePrefix, IsOldOrNext, IsAnswer}
+use Rattle.rec_tools.specs.States.{State}
 use Rattle.rec_tools.specs.Guarantee.{RunsAsMachine, StepsAsMachine}
 use Rattle.rec_tools.proofs.lemmas.calls.CallLemmas.{HasFailed-prefix, HasFailed-rest, TellAll-prefix, TellAll-rest, left_by_all-append}
 use Rattle.rec_tools.proofs.lemmas.runs.RunLemmas.{left-gots, left-puts, stopped-failed, left-stopped, cut-failed, left-carried}
@@ -104,7 +108,7 @@ module _ (c : Contents) (s : State) (asked : Asked) (stands : Stands c s) where
 -- ---- many requests
 
 pub attempts_all-runs : {H : Type 0} (goes : H → Call → H → Type 0) (old new : H) (c : Contents) (s : State) (requests : List Request) (answers : List Answer) (calls : List Call) (p : Printed)
-    → Stands c s → (HasFailed calls → ⊥) → TellAll c calls → AttemptsAll goes old new requests answers calls p → (t : State) × RunsAsMachine c s requests answers calls p t
+    → Stands c s → (HasFailed calls → ⊥) → TellAll c calls → AttemptsAll goes old new requests answers calls p → (t : State) × RunsAsMachine asked_of c s requests answers calls p t
 attempts_all-runs goes old new c s [] [] calls p stands held tells done = (s, (done.1, done.2, refl))
 attempts_all-runs goes old new c s [] (answer ∷ answers) calls p stands held tells done = absurd done
 attempts_all-runs goes old new c s (request ∷ requests) [] calls p stands held tells done = absurd done
@@ -119,7 +123,7 @@ attempts_all-runs goes old new c s (request ∷ requests) (answer ∷ answers) c
 -- the same whatever fails, where the journal is regular
 pub attempts_all-fails : {H : Type 0} (goes : H → Call → H → Type 0) (old new : H) (c : Contents) (s : State) (requests : List Request) (answers : List Answer) (calls : List Call) (p : Printed)
     → Stands c s → IsRegular c.journal → TellAll c calls → AttemptsAll goes old new requests answers calls p
-    → (t : State) × RunsAsMachine c s requests answers calls p t × IsRegular (left_by_all c calls).journal
+    → (t : State) × RunsAsMachine asked_of c s requests answers calls p t × IsRegular (left_by_all c calls).journal
 attempts_all-fails goes old new c s [] [] calls p stands regular tells done =
     (s, (done.1, done.2, refl), subst (λ made. IsRegular (left_by_all c made).journal) (sym done.1) regular)
 attempts_all-fails goes old new c s [] (answer ∷ answers) calls p stands regular tells done = absurd done

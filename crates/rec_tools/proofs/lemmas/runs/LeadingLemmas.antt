@@ -1,27 +1,27 @@
 -- Moves through the edit of a number lead there on the machine: by each entry as far as that one, and no further.
-use Rattle.std.proofs.Common.{◌≡◌, ◌≢◌, ◌∙◌, inl, inr, ap, ap₂, sym, subst, refl, arith, ℕ, ◌+◌, ◌<◌, ◌≤◌, Bool, true, false, not, ◌||◌, ◌&&◌}
-use Rattle.std.proofs.Common.{List, [], ◌∷◌, ◌++◌, length, map, reverse, append_assoc, Option, Some, None, Ok, Err}
-use Rattle.std.specs.Prelude.{◌==◌, nat_lt}
+use Rattle.std.proofs.Common.{◌≡◌, ◌≢◌, ◌∙◌, inl, inr, ap, ap₂, sym, subst, refl, arith, ℕ, ◌+◌, true, false, not, ◌||◌, List, [], ◌∷◌, ◌++◌, map, reverse, append_assoc, Option, Some, None}
+use Rattle.std.proofs.Common.{Ok, Err}
+use Rattle.std.specs.Prelude.{◌==◌}
 use Rattle.std.specs.List.{AllByRecursion, list_any}
-use Rattle.std.proofs.lemmas.Bool.{false≢true, lt-ltb, ltb-true, eq-eqb, ne_eqb, and_from, and_parts, or_right, and_right}
+use Rattle.std.proofs.lemmas.Bool.{false≢true, lt-ltb, ltb-true, eq-eqb, ne_eqb, and_from, and_parts, or_right}
 use Rattle.std.proofs.lemmas.List.{reverse-append}
 use Rattle.rec_text.specs.declared.fault.Fault.{Fault}
 use Rattle.rec_text.specs.declared.fault.Fault.TheVariants.{NoSuchEdit}
-use Rattle.rec_text.proofs.lemmas.FaultLemmas.{no_both}
 use Rattle.rec_journal.specs.declared.patch.Direction.{Direction}
 use Rattle.rec_journal.specs.declared.patch.Direction.TheVariants.{Forward, Backward}
 use Rattle.rec_journal.specs.declared.event.Revision.{Revision}
 use Rattle.rec_journal.specs.declared.event.Tool.{Tool}
 use Rattle.rec_journal.specs.EditTexts.{GrowWithin}
-use Rattle.rec_journal.specs.Numbers.{is_missing}
 use Rattle.rec_journal.specs.Plans.{nothing_there}
 use Rattle.rec_journal.proofs.lemmas.histories.Growths.{numbers_grow}
 use Rattle.rec_tools.specs.Home.{Contents}
-use Rattle.rec_tools.specs.Requests.{moving}
+use Rattle.rec_tools.specs.Asked.{moving}
 use Rattle.rec_tools.specs.Outcomes.{reply_of}
 use Rattle.rec_tools.specs.Attempts.{Answer}
-use Rattle.rec_tools.specs.Machine.{Entry, State, AreEntries, IsMoveStep, Stands, entries_on, numbers_in, state_after_move, entry_back}
-use Rattle.rec_tools.specs.Through.{moved_by, comes_before, leads_on, LeadThrough, StepsAgain, entries_back, state_through, IsThrough, answers_of, LeadThere, MovesLeadThere}
+use Rattle.rec_tools.specs.Machine.{IsMoveStep}
+use Rattle.rec_tools.specs.Stands.{Stands}
+use Rattle.rec_tools.specs.States.{Entry, State, entries_on, numbers_in, state_after_move, entry_back}
+use Rattle.rec_tools.specs.Through.{moved_by, comes_before, leads_on, LeadThrough, StepsAgain, entries_back, state_through, answers_of, MovesLeadThere}
 use Rattle.rec_tools.proofs.lemmas.machine.StepLemmas.{numbered_alike}
 use Rattle.rec_tools.proofs.lemmas.machine.StandsLemmas.{same_state}
 

@@ -1,5 +1,5 @@
 -- A file that was changed outside, and what requests then come to.
-use Rattle.std.proofs.Common.{◌≡◌, ◌≢◌, ◌⊎◌, inl, inr, ℕ, Bool, true, false, List, [], ◌∷◌, Option, Result, Ok, Err, sym, ap, subst, refl, ◌∙◌}
+use Rattle.std.proofs.Common.{◌≡◌, ◌≢◌, ◌⊎◌, inl, inr, ℕ, Bool, true, false, List, [], ◌∷◌, Option, Result, Ok, Err, sym, ap, ap₂, subst, refl, ◌∙◌}
 use Rattle.std.specs.Prelude.{codes, if◌then◌else◌, map}
 use Rattle.std.proofs.lemmas.Bool.{false≢true}
 use Rattle.rec_text.specs.declared.fault.Fault.{Fault}
@@ -7,7 +7,6 @@ use Rattle.rec_text.specs.declared.fault.Fault.TheVariants.{Drifted}
 use Rattle.rec_text.specs.declared.violations.Violation.{Violation}
 use Rattle.rec_journal.specs.declared.patch.Direction.{Direction}
 use Rattle.rec_journal.specs.declared.patch.Direction.TheVariants.{Forward, Backward}
-use Rattle.rec_journal.specs.declared.event.EditStep.{EditStep}
 use Rattle.rec_journal.specs.declared.event.Revision.{Revision}
 use Rattle.rec_journal.specs.declared.event.Tool.{Tool}
 use Rattle.rec_journal.specs.declared.plan.Plan.{Plan}
@@ -18,22 +17,26 @@ use Rattle.rec_journal.proofs.lemmas.histories.Countings.{drifted-empty}
 use Rattle.rec_journal.proofs.lemmas.histories.Openings.{one_opening}
 use Rattle.rec_edit.specs.declared.answer.Edited.{Edited}
 use Rattle.rec_tools.specs.declared.request.Reply.{Reply}
-use Rattle.rec_tools.specs.declared.request.Reply.TheVariants.{Shown}
+use Rattle.rec_tools.specs.declared.request.Reply.TheVariants.{Shown, Drifted as HasDrifted}
 use Rattle.rec_tools.specs.declared.request.Look.{Look}
 use Rattle.rec_tools.specs.declared.request.Look.TheVariants.{Show, Info, Check, History, Diff, Log}
 use Rattle.rec_tools.specs.declared.request.Request.{Request}
 use Rattle.rec_tools.specs.declared.request.Request.TheVariants.{Look as Looks, Change as Changes, Preview as Previews}
 use Rattle.rec_tools.specs.Home.{Contents, written}
-use Rattle.rec_tools.specs.Printouts.{history_text, verdict, IsShownText, IsShow, IsInfoOf, IsShownEdit, IsWholeLog}
-use Rattle.rec_tools.specs.Requests.{AskedChange, editing, moving, reverting, forgetting, adopting, writing, Asked, looking, listing, showing, listing_changes, changing, previewing}
-use Rattle.rec_tools.specs.Requests.{look_of, change_of, asked_of}
-use Rattle.rec_tools.specs.Outcomes.{Outcome, IsMade, IsWritten, IsPutOn, IsChangeOutcome, IsRequestOutcome, IsPlanned, IsPrinting, edit_reply, write_reply, printing}
-use Rattle.rec_tools.specs.Machine.{AreEntries, Stands}
+use Rattle.rec_tools.specs.Printouts.{history_text, verdict, IsShownText, IsShow, IsInfoOf, IsShownEdit}
+use Rattle.rec_tools.specs.Asked.{AskedChange, editing, moving, reverting, forgetting, adopting, writing, Asked, looking, listing, showing, listing_changes, changing, previewing, Reading}
+use Rattle.rec_tools.specs.Asked.{Reversal}
+use Rattle.rec_tools.specs.Requests.{look_of, change_of, asked_of, as_diff}
+use Rattle.rec_tools.specs.Outcomes.{Outcome, IsPutOn, IsChangeOutcome, IsRequestOutcome, IsPlanned, IsPrinting, edit_reply, write_reply, printing}
+use Rattle.rec_tools.specs.Stands.{AreEntries, Stands}
 use Rattle.rec_tools.specs.Laws.{MadeAnEdit, IsPreview, outside_state, BeginsAnew, GoesOn, OutsideIsNoticed}
 use Rattle.rec_text.proofs.lemmas.FaultLemmas.{no_both, ok_is_no_err, same_value}
 use Rattle.rec_tools.proofs.lemmas.outcomes.FromLemmas.{put_on}
 use Rattle.rec_tools.proofs.lemmas.outcomes.OpeningLemmas.{edit_leads_back}
 use Rattle.rec_tools.proofs.lemmas.runs.RunLemmas.{writes_nothing}
+use Rattle.rec_check.specs.DescribedTexts.{IsDescribedText}
+use Rattle.rec_tools.specs.Reverting.{IsReverted}
+use Rattle.rec_tools.specs.Asked.{Telling}
 
 module _ (c : Contents) (o : Opened) (opens : Opens c.file c.journal o) (drifted : o.drifted ≡ true) where
   no_refusal : (fault : Fault) → IsOpening c.file c.journal (Err fault) → ⊥
@@ -57,11 +60,23 @@ module _ (c : Contents) (o : Opened) (opens : Opens c.file c.journal o) (drifted
   nothing_forgotten n dropping (Ok outcome) (inr (p, opened, (settled, forgets))) = absurd (not_settled p opened settled)
   nothing_forgotten n dropping (Err fault) (inr (p, opened, (is, why))) = ap Err is
 
-  told_drifted : (r : Result Outcome Fault) → IsRequestOutcome c listing r → r ≡ Ok (printing (codes "drifted\n") Shown)
+  has_drifted : (p : Opened) → Opens c.file c.journal p → p.drifted ≡ true
+  has_drifted p opened = ap (λ (x : Opened). x.drifted) (same_opening p opened) ∙ drifted
+
+  told_drifted : (r : Result Outcome Fault) → IsRequestOutcome c listing r → r ≡ Ok (printing (codes "drifted\n") HasDrifted)
   told_drifted r (inl (fault, refused, e)) = absurd (no_refusal fault refused)
   told_drifted r (inr (p, opened, e)) =
-      let is : p.drifted ≡ true = ap (λ (x : Opened). x.drifted) (same_opening p opened) ∙ drifted in
-      e ∙ ap (λ b. Ok (printing (if b then codes "drifted\n" else history_text (map (λ (x : Revision). (x.number, x.tool)) p.past) (map (λ (x : Revision). (x.number, x.tool)) p.future)) Shown)) is
+      let text : Bool → List ℕ = λ b.
+      if b then codes "drifted\n" else history_text (map (λ (x : Revision). (x.number, x.tool)) p.past) (map (λ (x : Revision). (x.number, x.tool)) p.future) in
+      e ∙ ap (λ b. Ok (printing (text b) (if b then HasDrifted else Shown))) (has_drifted p opened)
+
+  logged_drifted : (Tells : Telling) (r : Result Outcome Fault) → IsRequestOutcome c (listing_changes Tells) r → r ≡ Ok (printing (codes "drifted\n") HasDrifted)
+  logged_drifted Tells (Ok outcome) (told, inl (fault, refused, e), is) = absurd (no_refusal fault refused)
+  logged_drifted Tells (Ok outcome) (told, inr (p, opened, (inl (so, text), reply)), is) =
+      ap Ok (is ∙ ap₂ printing text (reply ∙ ap (λ b. if b then HasDrifted else Shown) so))
+  logged_drifted Tells (Ok outcome) (told, inr (p, opened, (inr (settled, log), reply)), is) = absurd (not_settled p opened settled)
+  logged_drifted Tells (Err fault) (inl (other, refused, e)) = absurd (no_refusal other refused)
+  logged_drifted Tells (Err fault) (inr (p, opened, (e, settled, none))) = absurd (not_settled p opened settled)
 
   -- the history after an edit has that edit alone
   begun : (tool : Tool) (made : Edited) (plan : Plan) → IsPlanned o c tool made plan → Stands (record { file = plan.file; journal = plan.journal }) (outside_state c o tool made.steps made.text)
@@ -85,12 +100,12 @@ module _ (c : Contents) (o : Opened) (opens : Opens c.file c.journal o) (drifted
       }
 
   -- nothing is reverted
-  no_revert : (number : ℕ) (force : Bool) (outcome : Outcome) → IsChangeOutcome c (reverting number force) (Ok outcome) → ⊥
-  no_revert number force outcome (inl refused) = let e = refused.2 in cc
-  no_revert number force outcome (inr (text, is, inl refused)) = let e = refused.2 in cc
-  no_revert number force outcome (inr (text, is, inr (p, opened, inl refused))) = let e = refused.2 in cc
-  no_revert number force outcome (inr (text, is, inr (p, opened, inr (told, inl (fault, none, e), last)))) = no_both told fault e
-  no_revert number force outcome (inr (text, is, inr (p, opened, inr (told, inr (found, standing, made), last)))) =
+  no_revert : {X : Type 0} (Reads : Reading X) (number : ℕ) (Reverts : Reversal) (outcome : Outcome) → IsChangeOutcome c (reverting Reads number Reverts) (Ok outcome) → ⊥
+  no_revert Reads number Reverts outcome (inl refused) = let e = refused.2 in cc
+  no_revert Reads number Reverts outcome (inr (text, is, inl refused)) = let e = refused.2 in cc
+  no_revert Reads number Reverts outcome (inr (text, is, inr (p, opened, inl refused))) = let e = refused.2 in cc
+  no_revert Reads number Reverts outcome (inr (text, is, inr (p, opened, inr (told, inl (fault, none, e), last)))) = no_both told fault e
+  no_revert Reads number Reverts outcome (inr (text, is, inr (p, opened, inr (told, inr (found, standing, made), last)))) =
       not_settled p opened standing.0
 
   -- what is put in place begins the history anew
@@ -121,13 +136,13 @@ module _ (c : Contents) (o : Opened) (opens : Opens c.file c.journal o) (drifted
   begins_anew (showing number style) outcome is some = absurd (some (writes_nothing c (showing number style) outcome tt is))
   begins_anew (listing_changes style) outcome is some = absurd (some (writes_nothing c (listing_changes style) outcome tt is))
   begins_anew (previewing style change) outcome is some = absurd (some (writes_nothing c (previewing style change) outcome tt is))
-  begins_anew (changing (reverting number force)) outcome is some = absurd (no_revert number force outcome is)
-  begins_anew (changing (editing IsEdit)) outcome is some =
+  begins_anew (changing (reverting Reads number Reverts)) outcome is some = absurd (no_revert Reads number Reverts outcome is)
+  begins_anew (changing (editing Reads Makes)) outcome is some =
       let (tool, made, done, stands) =
-      begun_put (λ _. IsMade IsEdit c.file) (λ o. edit_reply o.next o.dropped) outcome (put_on c (λ _. IsMade IsEdit c.file) (λ o. edit_reply o.next o.dropped) outcome is) some in
+      begun_put (λ _. Makes c.file) (λ o. edit_reply o.next o.dropped) outcome (put_on Reads c (λ _. Makes c.file) (λ o. edit_reply o.next o.dropped) outcome is) some in
       inl (record { tool = tool; made = made; makes = done; stands = stands })
-  begins_anew (changing (writing force over text)) outcome is some =
-      let (tool, made, done, stands) = begun_put (λ _. IsWritten force over text c.file) (λ o. write_reply o.next o.dropped) outcome is some in
+  begins_anew (changing (writing Makes)) outcome is some =
+      let (tool, made, done, stands) = begun_put (λ _. Makes c.file) (λ o. write_reply o.next o.dropped) outcome is some in
       inl (record { tool = tool; made = made; makes = done; stands = stands })
   begins_anew (changing (moving direction through)) outcome is some = absurd (ok_is_no_err outcome Drifted ⊥ (sym (no_move direction through (Ok outcome) is)))
   begins_anew (changing (forgetting n dropping)) outcome is some = absurd (ok_is_no_err outcome Drifted ⊥ (sym (nothing_forgotten n dropping (Ok outcome) is)))
@@ -151,17 +166,17 @@ module _ (c : Contents) (o : Opened) (opens : Opens c.file c.journal o) (drifted
   look-no_edit (Show pick form collapse) outcome is made = printed-no_edit (IsShow c.file pick form collapse) outcome is made
   look-no_edit (Info record_type form) outcome is made = printed-no_edit (IsInfoOf c.file record_type form) outcome is made
   look-no_edit Check outcome (p, (found, are, text, reply), e) made = report-no_edit found outcome.reply (ap (λ (x : Outcome). x.reply) e ∙ reply) made
-  look-no_edit History outcome is made = shown-no_edit outcome.reply (ap (λ (x : Outcome). x.reply) (same_value outcome _ (told_drifted (Ok outcome) is))) made
-  look-no_edit (Diff number style) outcome is made = printed-no_edit (IsShownEdit number style c.file c.journal) outcome is made
-  look-no_edit (Log style) outcome is made = printed-no_edit (IsWholeLog style c.file c.journal) outcome is made
+  look-no_edit History outcome is made = subst (λ (x : Outcome). MadeAnEdit x.reply) (same_value outcome _ (told_drifted (Ok outcome) is)) made
+  look-no_edit (Diff number style) outcome is made = printed-no_edit (IsShownEdit number (as_diff style) c.file c.journal) outcome is made
+  look-no_edit (Log style) outcome is made = subst (λ (x : Outcome). MadeAnEdit x.reply) (same_value outcome _ (logged_drifted (as_diff style) (Ok outcome) is)) made
 
   change-written : (change : AskedChange) (outcome : Outcome) → IsChangeOutcome c change (Ok outcome) → outcome.writes ≡ [] → MadeAnEdit outcome.reply → ⊥
-  change-written (editing IsEdit) outcome is none made =
-      put-written (λ _. IsMade IsEdit c.file) (λ o. edit_reply o.next o.dropped) outcome (put_on c (λ _. IsMade IsEdit c.file) (λ o. edit_reply o.next o.dropped) outcome is) none made
-  change-written (writing force over text) outcome is none made =
-      put-written (λ _. IsWritten force over text c.file) (λ o. write_reply o.next o.dropped) outcome is none made
+  change-written (editing Reads Makes) outcome is none made =
+      put-written (λ _. Makes c.file) (λ o. edit_reply o.next o.dropped) outcome (put_on Reads c (λ _. Makes c.file) (λ o. edit_reply o.next o.dropped) outcome is) none made
+  change-written (writing Makes) outcome is none made =
+      put-written (λ _. Makes c.file) (λ o. write_reply o.next o.dropped) outcome is none made
   change-written (moving direction through) outcome is none made = ok_is_no_err outcome Drifted ⊥ (sym (no_move direction through (Ok outcome) is))
-  change-written (reverting number force) outcome is none made = no_revert number force outcome is
+  change-written (reverting Reads number Reverts) outcome is none made = no_revert Reads number Reverts outcome is
   change-written (forgetting n dropping) outcome is none made = ok_is_no_err outcome Drifted ⊥ (sym (nothing_forgotten n dropping (Ok outcome) is))
   change-written (adopting old) outcome (inl (fault, refused, e)) none made = no_both outcome fault e
   change-written (adopting old) outcome (inr (p, opened, inl (settled, e))) none made = not_settled p opened settled
@@ -178,9 +193,10 @@ outside_is_noticed c o opens drifted =
     record {
       undo = no_move c o opens drifted Backward;
       redo = no_move c o opens drifted Forward;
-      revert = no_revert c o opens drifted;
+      revert = λ number force. no_revert c o opens drifted IsDescribedText number (IsReverted force);
       forgetting = nothing_forgotten c o opens drifted;
       history = told_drifted c o opens drifted;
+      log = λ style. logged_drifted c o opens drifted (as_diff style);
       edits = λ request outcome is. begins_anew c o opens drifted (asked_of request) outcome is;
       unwritten = unwritten c o opens drifted;
     }

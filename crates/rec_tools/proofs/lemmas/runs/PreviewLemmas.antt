@@ -1,5 +1,5 @@
 -- What is printed for a preview.
-use Rattle.std.proofs.Common.{arith, ◌≡◌, inl, inr, ℕ, List, [], ◌++◌, Option, Some, None, Result, Ok, Err, sym, subst, refl}
+use Rattle.std.proofs.Common.{arith, ◌≡◌, inl, inr, ℕ, List, [], Option, Some, None, Result, Ok, Err, sym, subst, refl}
 use Rattle.std.proofs.KnownBytes.{Appends-nil}
 use Rattle.rec_text.specs.declared.fault.Fault.{Fault}
 use Rattle.rec_text.specs.Faults.{IsMemoryOr}
@@ -12,15 +12,14 @@ use Rattle.rec_select.specs.Taken.{PrintsAndCounts, Puts}
 use Rattle.rec_diff.specs.declared.style.DiffStyle.{DiffStyle}
 use Rattle.rec_diff.specs.Diffs.{IsDiff}
 use Rattle.rec_diff.proofs.lemmas.DiffLemmas.{no_refused_diff}
-use Rattle.rec_tools.specs.Home.{TellAll, Went}
 use Rattle.rec_tools.specs.declared.decision.Decision.{Decision}
 use Rattle.rec_tools.specs.declared.decision.Decision.TheVariants.{Stay, Put, Adopt}
 use Rattle.rec_tools.specs.declared.request.Reply.{Reply}
 use Rattle.rec_tools.specs.declared.request.Change.{Change}
-use Rattle.rec_tools.specs.Printouts.{WentOut, PutsPrintout}
-use Rattle.rec_tools.specs.Requests.{AskedChange, previewing, change_of}
+use Rattle.rec_tools.specs.Printouts.{PutsPrintout}
+use Rattle.rec_tools.specs.Requests.{change_of, as_diff}
+use Rattle.rec_tools.specs.Asked.{AskedChange, previewing}
 use Rattle.rec_tools.specs.Outcomes.{Outcome, IsChangeOutcome, IsRequestOutcome, IsPrinting, printing, outcome_of, reply_in}
-use Rattle.rec_tools.specs.Attempts.{gots}
 use Rattle.rec_tools.specs.proving.Courses.{contents, HasCourse, LeadsSo, IsTextOf, IsDecisionText, IsPreviewed}
 use Rattle.rec_text.proofs.lemmas.FaultLemmas.{no_both, same_value}
 use Rattle.rec_tools.proofs.lemmas.outcomes.StoreLemmas.{no_store_change}
@@ -29,7 +28,7 @@ use Rattle.rec_tools.proofs.lemmas.printing.PutsLemmas.{PutsPrintout-err, refuse
 -- what is printed of a decision is printed for the preview
 pub decided-previewed : (style : DiffStyle) (file journal : List ℕ) (change : AskedChange) (decision : Decision) → IsChangeOutcome (contents file journal) change (Ok (outcome_of decision))
     → HasCourse file journal decision → (text : List ℕ) → IsDecisionText style file decision (Ok text)
-    → IsRequestOutcome (contents file journal) (previewing style change) (Ok (printing text (reply_in decision)))
+    → IsRequestOutcome (contents file journal) (previewing (as_diff style) change) (Ok (printing text (reply_in decision)))
 decided-previewed style file journal change (Stay reply) is course text e =
     (outcome_of (Stay reply), is, record { text = inl (refl, same_value text [] e); writes = refl; reply = refl; from = refl })
 decided-previewed style file journal change (Put put None reply) is course text e =
@@ -98,7 +97,7 @@ module _ {S : Type 0} {told : S → Option (List ℕ)} {failures : S → ℕ} (s
         rw same (printed_all h (λ printed. (printed.0, decided-previewed style file journal (change_of change) decision is course printed.0 printed.1, printed.2)))
 
 pub previewed-outcome : (style : DiffStyle) (change : AskedChange) (file journal : List ℕ) (r : Result Outcome Fault) → IsPrinting (IsPreviewed style file journal change) r
-    → IsRequestOutcome (record { file = file; journal = journal }) (previewing style change) r
+    → IsRequestOutcome (record { file = file; journal = journal }) (previewing (as_diff style) change) r
 previewed-outcome style change file journal (Ok outcome) (p, is, e) =
-    subst (λ x. IsRequestOutcome (record { file = file; journal = journal }) (previewing style change) (Ok x)) (sym e) is
+    subst (λ x. IsRequestOutcome (record { file = file; journal = journal }) (previewing (as_diff style) change) (Ok x)) (sym e) is
 previewed-outcome style change file journal (Err fault) is = is

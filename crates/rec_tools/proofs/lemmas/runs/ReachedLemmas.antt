@@ -4,7 +4,6 @@ use Rattle.std.specs.Prelude.{IfSome, IfOk, IsSomeAnd, slice_get}
 use Rattle.std.proofs.lemmas.List.{reverse-append, reverse-reverse}
 use Rattle.std.specs.List.{AllByRecursion}
 use Rattle.std.proofs.lemmas.Bool.{false≢true}
-use Rattle.rec_text.specs.declared.fault.Fault.{Fault}
 use Rattle.rec_text.specs.declared.fault.Fault.TheVariants.{OutOfMemory, DigestClash, StoreFailed}
 use Rattle.rec_text.proofs.lemmas.FaultLemmas.{no_both}
 use Rattle.rec_journal.specs.declared.patch.Direction.{Direction}
@@ -14,9 +13,13 @@ use Rattle.rec_tools.specs.declared.request.Request.TheVariants.{Change as Chang
 use Rattle.rec_tools.specs.declared.through.Through.{Through}
 use Rattle.rec_tools.specs.Home.{Contents, Call, left_by, left_by_all, TellsOf, TellAll, HasFailed}
 use Rattle.rec_tools.specs.Printouts.{Printed}
-use Rattle.rec_tools.specs.Requests.{AskedChange, moving, changing, change_of}
+use Rattle.rec_tools.specs.Requests.{change_of}
+use Rattle.rec_tools.specs.Asked.{AskedChange, moving, changing}
 use Rattle.rec_tools.specs.Attempts.{Answer, Does, AttemptsAll}
-use Rattle.rec_tools.specs.Machine.{State, IsChangeStep, IsAnswer, Stands}
+use Rattle.rec_tools.specs.Machine.{IsChangeStep}
+use Rattle.rec_tools.specs.Stands.{Stands}
+use Rattle.rec_tools.specs.Answers.{IsAnswer}
+use Rattle.rec_tools.specs.States.{State}
 use Rattle.rec_tools.specs.Through.{move_through, moves_through, moved_by, leads_on, LeadThrough, StepsAgain, IsThrough}
 use Rattle.rec_tools.specs.proving.Moving.{GoesThrough}
 use Rattle.rec_tools.proofs.lemmas.calls.CallLemmas.{Follows, contents_follow, TellAll-prefix, TellAll-rest, left_by_all-append}

@@ -11,7 +11,8 @@ use Rattle.rec_tools.specs.Home.{Contents, Call, left_by, left_by_all, TellsOf, 
 use Rattle.rec_tools.specs.Printouts.{Printed, WentOut, IsBoth, IsSilence}
 use Rattle.rec_tools.specs.Requests.{asked_of, IsChange}
 use Rattle.rec_tools.specs.Attempts.{Answer, Attempts, AttemptsAll}
-use Rattle.rec_tools.specs.Machine.{State, Stands}
+use Rattle.rec_tools.specs.Stands.{Stands}
+use Rattle.rec_tools.specs.States.{State}
 use Rattle.rec_tools.specs.Guarantee.{RunsAsMachine}
 use Rattle.rec_tools.proofs.lemmas.calls.CallLemmas.{Follows, went_on, contents_follow}
 use Rattle.rec_tools.proofs.lemmas.calls.ExitLemmas.{Attempted, silence, went_silently}
@@ -121,7 +122,7 @@ module _ {H S : Type 0} (goes : H → Call → H → Type 0) (told : S → Optio
   abbrev pub RanAsMachine : (H → Option Contents) → Option Contents → H → H → S → S → List Request → List Answer → Type 0
   RanAsMachine contents known old new out out_new requests answers = IfSome known (λ c. (s : State) → Stands c s →
       (calls : List Call) × (p : Printed) × WentOut told sink_failures out out_new p × WentOn goes contents c old calls new
-      × ((HasFailed calls → ⊥) → (t : State) × RunsAsMachine c s requests answers calls p t))
+      × ((HasFailed calls → ⊥) → (t : State) × RunsAsMachine asked_of c s requests answers calls p t))
 
   ran_told : (contents : H → Option Contents) (known : Option Contents) (old new : H) (out out_new : S) (requests : List Request) (answers : List Answer)
       → (done : AttemptedAll goes told sink_failures old new out out_new requests answers) → Follows known done.0 (contents new)
@@ -134,7 +135,7 @@ module _ {H S : Type 0} (goes : H → Call → H → Type 0) (told : S → Optio
   abbrev pub RanWithFailures : (H → Option Contents) → Option Contents → H → H → S → S → List Request → List Answer → Type 0
   RanWithFailures contents known old new out out_new requests answers = IfSome known (λ c. (s : State) → Stands c s → IsRegular c.journal →
       (calls : List Call) × (p : Printed) × (t : State) × WentOut told sink_failures out out_new p × WentOn goes contents c old calls new
-      × RunsAsMachine c s requests answers calls p t × IsRegular (left_by_all c calls).journal)
+      × RunsAsMachine asked_of c s requests answers calls p t × IsRegular (left_by_all c calls).journal)
 
   failed_told : (contents : H → Option Contents) (known : Option Contents) (old new : H) (out out_new : S) (requests : List Request) (answers : List Answer)
       → (done : AttemptedAll goes told sink_failures old new out out_new requests answers) → Follows known done.0 (contents new)

@@ -11,7 +11,8 @@ use Rattle.rec_tools.specs.declared.request.Request.{Request}
 use Rattle.rec_tools.specs.declared.request.Request.TheVariants.{Look as Looks, Change as Changes, Preview as Previews}
 use Rattle.rec_tools.specs.Home.{Contents, Write, written, Call, got, lacked, left_by, left_by_all, TellsOf, TellAll, HasFailed, CountsFailure}
 use Rattle.rec_tools.specs.Printouts.{Printed}
-use Rattle.rec_tools.specs.Requests.{Asked, looking, listing, showing, listing_changes, changing, previewing, look_of, asked_of, reads_of, IsChange}
+use Rattle.rec_tools.specs.Requests.{look_of, asked_of, IsChange}
+use Rattle.rec_tools.specs.Asked.{Asked, looking, listing, showing, listing_changes, changing, previewing, reads_of}
 use Rattle.rec_tools.specs.Outcomes.{Outcome, IsRequestOutcome}
 use Rattle.rec_tools.specs.Attempts.{Answer, gots, puts, StopsReading, StopsWriting, IsAnswered, IsCutShort, IsUnread, IsCarriedOut, Does}
 use Rattle.rec_tools.proofs.lemmas.calls.CallLemmas.{Follows, HasFailed-rest, HasFailed-parts, left_by_all-append, failures_stay, failures_rise, contents_follow}

@@ -1,5 +1,5 @@
 -- A preview prints what is shown of the edit once it is made.
-use Rattle.std.proofs.Common.{arith, ◌≡◌, ◌≢◌, inl, inr, ℕ, ◌+◌, true, false, List, [], ◌∷◌, length, None, Result, Ok, Err, sym, ap, subst, refl, ◌∙◌}
+use Rattle.std.proofs.Common.{arith, ◌≡◌, ◌≢◌, inl, inr, ℕ, ◌+◌, false, List, [], ◌∷◌, length, None, Result, Ok, sym, ap, subst, refl, ◌∙◌}
 use Rattle.std.proofs.lemmas.Bool.{cases_Bool}
 use Rattle.rec_text.specs.declared.fault.Fault.TheVariants.{BadPattern}
 use Rattle.rec_text.specs.declared.fault.Fault.{Fault}
@@ -17,12 +17,12 @@ use Rattle.rec_diff.specs.Diffs.{IsDiff}
 use Rattle.rec_tools.specs.declared.request.Reply.{Reply}
 use Rattle.rec_tools.specs.declared.request.Reply.TheVariants.{Shown}
 use Rattle.rec_tools.specs.Home.{Contents, written}
-use Rattle.rec_tools.specs.Requests.{AskedChange, editing, moving, reverting, forgetting, adopting, writing, showing, change_of}
+use Rattle.rec_tools.specs.Requests.{change_of, as_diff}
+use Rattle.rec_tools.specs.Asked.{AskedChange, editing, moving, reverting, forgetting, adopting, writing, showing}
 use Rattle.rec_tools.specs.Reverting.{IsRevertOf}
-use Rattle.rec_tools.specs.Outcomes.{Outcome, IsMade, IsWritten, IsPutOn, edit_reply, revert_reply, write_reply, IsChangeOutcome, IsRequestOutcome, IsPreviewText, IsPreviewFrom}
-use Rattle.rec_tools.specs.Outcomes.{LeadsAcross, LeadsFrom, printing}
+use Rattle.rec_tools.specs.Outcomes.{Outcome, IsPutOn, edit_reply, revert_reply, write_reply, IsChangeOutcome, IsRequestOutcome, IsPreviewText, IsPreviewFrom, LeadsFrom, printing}
 use Rattle.rec_tools.specs.Laws.{MadeAnEdit, PreviewIsShowAfter, AdoptionIsShownAfter}
-use Rattle.rec_text.proofs.lemmas.FaultLemmas.{no_both, ok_is_no_err, same_value}
+use Rattle.rec_text.proofs.lemmas.FaultLemmas.{no_both, same_value}
 use Rattle.rec_tools.proofs.lemmas.outcomes.OpeningLemmas.{move_differs}
 use Rattle.rec_tools.proofs.lemmas.outcomes.FromLemmas.{put_on, from_file}
 use Rattle.rec_tools.proofs.lemmas.outcomes.OutcomeLemmas.{one_change, one_change_outcome}
@@ -54,12 +54,12 @@ grew-put c MakesOf reply_for done made (inr (o, opens, inr ((tool, edited), is_m
 
 -- so it can after what made an edit, or made one again
 grew : (c : Contents) (change : AskedChange) (done : Outcome) → MadeAnEdit done.reply → IsChangeOutcome c change (Ok done) → GrewByOne c (written c done.writes)
-grew c (editing IsEdit) done made is =
-    grew-put c (λ _. IsMade IsEdit c.file) (λ o. edit_reply o.next o.dropped) done made (put_on c (λ _. IsMade IsEdit c.file) (λ o. edit_reply o.next o.dropped) done is)
-grew c (reverting number force) done made is =
-    grew-put c (λ o. IsRevertOf number force o c.file) (λ o. revert_reply number o.next) done made
-    (put_on c (λ o. IsRevertOf number force o c.file) (λ o. revert_reply number o.next) done is)
-grew c (writing force over text) done made is = grew-put c (λ _. IsWritten force over text c.file) (λ o. write_reply o.next o.dropped) done made is
+grew c (editing Reads Makes) done made is =
+    grew-put c (λ _. Makes c.file) (λ o. edit_reply o.next o.dropped) done made (put_on Reads c (λ _. Makes c.file) (λ o. edit_reply o.next o.dropped) done is)
+grew c (reverting Reads number Reverts) done made is =
+    grew-put c (λ o. IsRevertOf number Reverts o c.file) (λ o. revert_reply number o.next) done made
+    (put_on Reads c (λ o. IsRevertOf number Reverts o c.file) (λ o. revert_reply number o.next) done is)
+grew c (writing Makes) done made is = grew-put c (λ _. Makes c.file) (λ o. write_reply o.next o.dropped) done made is
 grew c (moving direction through) done made (inl (fault, refused, e)) = absurd (no_both done fault e)
 grew c (moving Backward through) done made (inr (o, opens, (settled, here, m))) = absurd (subst (λ (x : Outcome). MadeAnEdit x.reply) m.is made)
 grew c (moving Forward through) done made (inr (o, opens, (settled, here, m))) =
@@ -94,7 +94,7 @@ module _ (c d : Contents) (style : DiffStyle) (text : List ℕ) (grows : GrewByO
   same_after o opens = same_value o grows.after (one_opening d.file d.journal (Ok o) (Ok grows.after) opens grows.opens_after)
 
   -- then it is the newest, and is shown so
-  shown_after : IsPreviewText style c d text → IsRequestOutcome d (showing None style) (Ok (printing text Shown))
+  shown_after : IsPreviewText (as_diff style) c d text → IsRequestOutcome d (showing None (as_diff style)) (Ok (printing text Shown))
   shown_after (inr (Forward, e, across, diff)) =
       let made : WithTexts = with_texts Backward e d.file c.file in
       let way : Way = record { direction = Backward; nearer = []; edit = e; farther = across.here.past } in (
@@ -140,13 +140,13 @@ pub preview_is_show_after : PreviewIsShowAfter
 preview_is_show_after c change style done previewed made is (would, is_too, preview) =
     let same = same_value would done (one_change_outcome c (change_of change) (one_change change) (Ok would) (Ok done) is_too is (no_both would BadPattern) (no_both done BadPattern)) in
     shown_after c (written c done.writes) style previewed.text (grew c (change_of change) done made is)
-    (subst (λ f. IsPreviewFrom f style c (written c done.writes) previewed.text) (no_other_file c (change_of change) done made is)
-    (subst (λ (w : Outcome). IsPreviewFrom w.from style c (written c w.writes) previewed.text) same preview.text))
+    (subst (λ f. IsPreviewFrom f (as_diff style) c (written c done.writes) previewed.text) (no_other_file c (change_of change) done made is)
+    (subst (λ (w : Outcome). IsPreviewFrom w.from (as_diff style) c (written c w.writes) previewed.text) same preview.text))
 
 -- ---- after an adoption
 
 shown_from : (from : List ℕ) (e : Revision) (d : Contents) (style : DiffStyle) (text : List ℕ) → LeadsFrom from e d → IsDiff Forward style e.steps from d.file (Ok text)
-    → IsRequestOutcome d (showing None style) (Ok (printing text Shown))
+    → IsRequestOutcome d (showing None (as_diff style)) (Ok (printing text Shown))
 shown_from from e d style text leads diff =
     let made : WithTexts = with_texts Backward e d.file from in
     let way : Way = record { direction = Backward; nearer = []; edit = e; farther = leads.others } in (
@@ -177,7 +177,7 @@ adoption_is_shown_after c old style done previewed some (inr (o, opens, inl (set
 adoption_is_shown_after c old style done previewed some (inr (o, opens, inr (drifted, (found, is, adopts)))) (would, is_too, preview) =
     let change : IsChangeOutcome c (adopting old) (Ok done) = inr (o, opens, inr (drifted, (found, is, adopts))) in
     let same = same_value would done (one_change_outcome c (adopting old) tt (Ok would) (Ok done) is_too change (no_both would BadPattern) (no_both done BadPattern)) in
-    let printed : IsPreviewFrom done.from style c (written c done.writes) previewed.text =
-    subst (λ (w : Outcome). IsPreviewFrom w.from style c (written c w.writes) previewed.text) same preview.text in
-    let (e, leads, diff) = subst (λ f. IsPreviewFrom f style c (written c done.writes) previewed.text) (ap (λ (x : Outcome). x.from) adopts.is) printed in
+    let printed : IsPreviewFrom done.from (as_diff style) c (written c done.writes) previewed.text =
+    subst (λ (w : Outcome). IsPreviewFrom w.from (as_diff style) c (written c w.writes) previewed.text) same preview.text in
+    let (e, leads, diff) = subst (λ f. IsPreviewFrom f (as_diff style) c (written c done.writes) previewed.text) (ap (λ (x : Outcome). x.from) adopts.is) printed in
     shown_from found.text e (written c done.writes) style previewed.text leads diff

@@ -13,13 +13,15 @@ use Rattle.rec_journal.specs.declared.event.Tool.{Tool}
 use Rattle.rec_tools.specs.declared.request.Reply.{Reply}
 use Rattle.rec_tools.specs.Home.{Contents, Write, writes_by, written, Call, left_by_all}
 use Rattle.rec_tools.specs.Printouts.{Printed}
-use Rattle.rec_tools.specs.Requests.{AskedChange, editing, moving, reverting, forgetting, adopting, writing, Asked, looking, listing, showing, listing_changes, changing, previewing}
-use Rattle.rec_tools.specs.Requests.{asked_of, reads_of}
+use Rattle.rec_tools.specs.Asked.{AskedChange, editing, moving, reverting, forgetting, adopting, writing, Asked, looking, listing, showing, listing_changes, changing, previewing, reads_of}
+use Rattle.rec_tools.specs.Requests.{asked_of}
 use Rattle.rec_tools.specs.Reverting.{IsRevertOf}
-use Rattle.rec_tools.specs.Outcomes.{Outcome, IsChangeOutcome, IsRequestOutcome, IsMade, IsWritten, IsPutOn, edit_reply, revert_reply, write_reply, Adopts}
+use Rattle.rec_tools.specs.Outcomes.{Outcome, IsChangeOutcome, IsRequestOutcome, IsPutOn, edit_reply, revert_reply, write_reply, Adopts}
 use Rattle.rec_tools.proofs.lemmas.outcomes.FromLemmas.{put_on}
 use Rattle.rec_tools.specs.Attempts.{Answer, StopsWriting, IsAnswered, IsCarriedOut, Does}
-use Rattle.rec_tools.specs.Machine.{State, IsOldOrNext, Stands}
+use Rattle.rec_tools.specs.Stands.{Stands}
+use Rattle.rec_tools.specs.Answers.{IsOldOrNext}
+use Rattle.rec_tools.specs.States.{State}
 use Rattle.rec_tools.specs.Guarantee.{StopsAreSteps, WritesAreRegular}
 use Rattle.rec_tools.proofs.lemmas.machine.StandsLemmas.{StandsBy, stands_by}
 use Rattle.rec_tools.proofs.lemmas.machine.StepLemmas.{outcomes_are_steps}
@@ -110,12 +112,12 @@ module _ (c : Contents) (regular : IsRegular c.journal) where
       subst (λ (x : Outcome). Leaves c x.writes) (sym e) (leaves-plan o _ opens plan planned.safe)
 
   leaves_change : (change : AskedChange) (outcome : Outcome) → IsChangeOutcome c change (Ok outcome) → Leaves c outcome.writes
-  leaves_change (editing IsEdit) outcome is =
-      leaves-put (λ _. IsMade IsEdit c.file) (λ o. edit_reply o.next o.dropped) outcome (put_on c (λ _. IsMade IsEdit c.file) (λ o. edit_reply o.next o.dropped) outcome is)
-  leaves_change (reverting number force) outcome is =
-      leaves-put (λ o. IsRevertOf number force o c.file) (λ o. revert_reply number o.next) outcome
-      (put_on c (λ o. IsRevertOf number force o c.file) (λ o. revert_reply number o.next) outcome is)
-  leaves_change (writing force over text) outcome is = leaves-put (λ _. IsWritten force over text c.file) (λ o. write_reply o.next o.dropped) outcome is
+  leaves_change (editing Reads Makes) outcome is =
+      leaves-put (λ _. Makes c.file) (λ o. edit_reply o.next o.dropped) outcome (put_on Reads c (λ _. Makes c.file) (λ o. edit_reply o.next o.dropped) outcome is)
+  leaves_change (reverting Reads number Reverts) outcome is =
+      leaves-put (λ o. IsRevertOf number Reverts o c.file) (λ o. revert_reply number o.next) outcome
+      (put_on Reads c (λ o. IsRevertOf number Reverts o c.file) (λ o. revert_reply number o.next) outcome is)
+  leaves_change (writing Makes) outcome is = leaves-put (λ _. Makes c.file) (λ o. write_reply o.next o.dropped) outcome is
   leaves_change (moving direction through) outcome (inl refused) = let e = refused.2 in cc
   leaves_change (moving direction through) outcome (inr (o, opens, (settled, here, m))) =
       subst (λ (x : Outcome). Leaves c x.writes) (sym m.is) (leaves-plan o _ opens m.plan m.safe)

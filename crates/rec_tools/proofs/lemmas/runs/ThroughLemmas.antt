@@ -1,5 +1,6 @@
 -- Moves through the edit of a number, one after another: the answers so far, and what is told of them at the end.
-use Rattle.std.proofs.Common.{◌≡◌, ◌∙◌, ℕ, ◌-◌, ◌<◌, ◌≤◌, ◌^◌, true, false, Option, Some, None, List, [], ◌∷◌, ◌++◌, length, length-append, replicate, reverse, append-nil, ap, sym, subst, refl, arith}
+use Rattle.std.proofs.Common.{◌≡◌, ◌∙◌, ℕ, ◌-◌, ◌<◌, ◌^◌, true, false, Option, Some, None, List, [], ◌∷◌, ◌++◌, length, length-append, replicate, reverse, append-nil, ap, sym, subst, refl}
+use Rattle.std.proofs.Common.{arith}
 use Rattle.std.specs.Prelude.{IfSome, slice_get, nat_lt}
 use Rattle.std.specs.List.{cons_option}
 use Rattle.std.specs.Option.{option_or}
@@ -14,9 +15,11 @@ use Rattle.rec_tools.specs.declared.request.Request.TheVariants.{Change as Chang
 use Rattle.rec_tools.specs.declared.through.Through.{Through}
 use Rattle.rec_tools.specs.Home.{Contents, Call, left_by, left_by_all, TellsOf, HasFailed, Went, WentOn}
 use Rattle.rec_tools.specs.Printouts.{Printed, IsSilence}
-use Rattle.rec_tools.specs.Requests.{changing, change_of}
+use Rattle.rec_tools.specs.Requests.{change_of, asked_of}
+use Rattle.rec_tools.specs.Asked.{changing}
 use Rattle.rec_tools.specs.Attempts.{Answer, AttemptsAll}
-use Rattle.rec_tools.specs.Machine.{State, Stands}
+use Rattle.rec_tools.specs.Stands.{Stands}
+use Rattle.rec_tools.specs.States.{State}
 use Rattle.rec_tools.specs.Guarantee.{RunsAsMachine}
 use Rattle.rec_tools.specs.Through.{move_through, moves_through, moved_by, leads_on, LeadThrough, all_moved, EndsThrough}
 use Rattle.rec_tools.specs.proving.Moving.{GoesThrough}
@@ -179,14 +182,14 @@ module _ {H : Type 0} (goes : H → Call → H → Type 0) (direction : Directio
     abbrev pub RanThrough : Option Contents → Type 0
     RanThrough known = IfSome known (λ c. (s : State) → Stands c s → (answers : List Answer) × EndsThrough direction number answers ended
         × (calls : List Call) × (p : Printed) × IsSilence p × WentOn goes contents c old calls new
-        × ((HasFailed calls → ⊥) → (t : State) × RunsAsMachine c s (moves_through direction number answers) answers calls p t))
+        × ((HasFailed calls → ⊥) → (t : State) × RunsAsMachine asked_of c s (moves_through direction number answers) answers calls p t))
 
     -- the same whatever fails, from a regular journal, which stays so
     abbrev pub FailedThrough : Option Contents → Type 0
     FailedThrough known =
         IfSome known (λ c. (s : State) → Stands c s → IsRegular c.journal → (answers : List Answer) × EndsThrough direction number answers ended
         × (calls : List Call) × (p : Printed) × (t : State) × IsSilence p × WentOn goes contents c old calls new
-        × RunsAsMachine c s (moves_through direction number answers) answers calls p t × IsRegular (left_by_all c calls).journal)
+        × RunsAsMachine asked_of c s (moves_through direction number answers) answers calls p t × IsRegular (left_by_all c calls).journal)
 
     went : (through : GoesThrough goes direction number old new ended) → Went goes old through.2 new
     went (answers, ends, calls, p, silent, done) = AttemptsAll-went goes old new (moves_through direction number answers) answers calls p done

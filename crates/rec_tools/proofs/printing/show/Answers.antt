@@ -1,5 +1,5 @@
 use Rattle.rec_text.proofs.lemmas.ErrorLemmas.{kept_error}
-use Rattle.rec_tools.proofs.lemmas.printing.PutsLemmas.{PutsPrintout-weaker, IsShownText-weaker, printed_weaker}
+use Rattle.rec_tools.proofs.lemmas.printing.PutsLemmas.{PutsPrintout-weaker, IsTextWith-weaker, printed_weaker}
 use Rattle.rec_tools.proofs.lemmas.printing.ShowLemmas.{show-no_text, show-not_asked, show-printed}
 use Rattle.rec_tools.proofs.printing.show.Goals as goal
 
@@ -17,4 +17,4 @@ returns-clause-written g c =
     let found = c.in_ok-wanted.ensures.found in
     printed_weaker c.print_wanted.ensures.written
     (PutsPrintout-weaker _ _ _ _ c.print_wanted.result
-    (IsShownText-weaker _ _ (show-printed c.args.file.now c.args.pick.now c.args.form.now c.args.collapse _ c.in_ok-read.ensures.found _ _ _ c.in_ok-wanted.ensures.record_type found.0 found.1)))
+    (IsTextWith-weaker _ _ _ (show-printed c.args.file.now c.args.pick.now c.args.form.now c.args.collapse _ c.in_ok-read.ensures.found _ _ _ c.in_ok-wanted.ensures.record_type found.0 found.1)))

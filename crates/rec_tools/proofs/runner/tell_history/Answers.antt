@@ -1,6 +1,6 @@
 use Rattle.std.proofs.Common.{refl}
-use Rattle.rec_tools.specs.Printouts.{IsShownText, IsHistory}
-use Rattle.rec_tools.specs.Requests.{listing}
+use Rattle.rec_tools.specs.Printouts.{IsHistory}
+use Rattle.rec_tools.specs.Asked.{listing}
 use Rattle.rec_tools.proofs.lemmas.calls.AttemptLemmas.{refused_with}
 use Rattle.rec_tools.proofs.lemmas.calls.ExitLemmas.{attempted-unread_both, attempted-both, listed-outcome}
 use Rattle.rec_tools.proofs.runner.tell_history.Goals as goal
@@ -11,5 +11,5 @@ returns-in_err-file-clause-attempts g c =
 
 pub returns-clause-attempts : goal.returns-clause-attempts
 returns-clause-attempts g c =
-    attempted-both _ g.S.Sink.contents g.S.Sink.failure_count listing (λ f j. IsShownText (IsHistory f j)) refl listed-outcome _ _ c.args.out.now c.print_history.new.out _ _ _ _ _
+    attempted-both _ g.S.Sink.contents g.S.Sink.failure_count listing IsHistory refl listed-outcome _ _ c.args.out.now c.print_history.new.out _ _ _ _ _
     c.in_ok-file.ensures.calls c.as_slice.ensures c.as_slice-2.ensures c.print_history.ensures.written

@@ -1,17 +1,19 @@
-use Rattle.std.proofs.Common.{refl, subst}
-use Rattle.rec_tools.specs.Printouts.{IsShownText, IsWholeLog}
-use Rattle.rec_tools.specs.Requests.{listing_changes}
+use Rattle.std.proofs.Common.{refl}
+use Rattle.rec_tools.specs.Printouts.{IsWholeLog}
+use Rattle.rec_tools.specs.Asked.{listing_changes}
 use Rattle.rec_tools.proofs.lemmas.calls.AttemptLemmas.{refused_with}
 use Rattle.rec_tools.proofs.lemmas.calls.ExitLemmas.{attempted-unread_both, attempted-both}
+use Rattle.rec_tools.specs.Requests.{as_diff}
 use Rattle.rec_tools.proofs.runner.tell_log.Goals as goal
 
 pub returns-in_err-file-clause-attempts : goal.returns-in_err-file-clause-attempts
 returns-in_err-file-clause-attempts g c =
     rw (refused_with _ _ c.from_residual.ensures.1)
-    (attempted-unread_both _ g.S.Sink.contents g.S.Sink.failure_count _ _ c.args.out.now (listing_changes c.args.style.now) _ refl c.in_err-file.ensures.calls)
+    (attempted-unread_both _ g.S.Sink.contents g.S.Sink.failure_count _ _ c.args.out.now (listing_changes (as_diff c.args.style.now)) _ refl c.in_err-file.ensures.calls)
 
 pub returns-clause-attempts : goal.returns-clause-attempts
 returns-clause-attempts g c =
-    attempted-both _ g.S.Sink.contents g.S.Sink.failure_count (listing_changes c.args.style.now) (λ f j. IsShownText (IsWholeLog c.args.style.now f j)) refl (λ file journal r is. is)
+    attempted-both _ g.S.Sink.contents g.S.Sink.failure_count (listing_changes (as_diff c.args.style.now)) (IsWholeLog (as_diff c.args.style.now)) refl
+    (λ file journal r is. is)
     _ _ c.args.out.now c.print_log.new.out _ _ _ _ _
     c.in_ok-file.ensures.calls c.as_slice.ensures c.as_slice-2.ensures c.print_log.ensures.written

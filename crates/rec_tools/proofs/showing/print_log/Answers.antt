@@ -1,6 +1,6 @@
 use Rattle.std.proofs.Common.{◌∙◌, sym}
 use Rattle.rec_text.proofs.lemmas.ErrorLemmas.{kept_error}
-use Rattle.rec_tools.proofs.lemmas.printing.ShownLemmas.{log-no_opening, log-opened, log-drifted}
+use Rattle.rec_tools.proofs.lemmas.printing.ShownLemmas.{log-no_opening, log-settled, log-drifted}
 use Rattle.rec_tools.proofs.showing.print_log.Goals as goal
 
 pub returns-in_err-history-clause-written : goal.returns-in_err-history-clause-written
@@ -16,4 +16,4 @@ print_edits-requires-clause-settled g c = sym c.is_drifted.ensures ∙ c.if-is_d
 
 pub returns-clause-written : goal.returns-clause-written
 returns-clause-written g c =
-    log-opened c.args.style.now c.args.file.now c.args.journal.now _ c.in_ok-history.ensures _ c.print_edits.ensures.written
+    log-settled c.args.style.now c.args.file.now c.args.journal.now _ c.in_ok-history.ensures _ (sym c.is_drifted.ensures ∙ c.if-is_drifted.false) c.print_edits.ensures.written

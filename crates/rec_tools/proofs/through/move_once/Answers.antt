@@ -1,5 +1,6 @@
 use Rattle.std.proofs.Common.{subst}
-use Rattle.rec_tools.specs.Requests.{changing, change_of}
+use Rattle.rec_tools.specs.Requests.{change_of}
+use Rattle.rec_tools.specs.Asked.{changing}
 use Rattle.rec_tools.specs.proving.Silently.{DoesSilently}
 use Rattle.rec_tools.proofs.through.move_once.Goals as goal
 

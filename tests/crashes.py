@@ -1,7 +1,8 @@
 #!/usr/bin/env python3
 """crashes.py PROGRAM STORIES: what a crash of the machine may leave of each request of rec_crashes, at each moment, with the file
 and its journal in one folder and in two, is laid in an empty folder. STORIES is rec_crashes, which tells what each request does to
-the disk. Then PROGRAM finds the history before the request or the one after it, makes an edit, and takes all edits back."""
+the disk. Then PROGRAM finds the history before the request or the one after it, gives the file a whole text, and takes all edits
+back."""
 
 import collections
 import itertools
@@ -10,14 +11,26 @@ import subprocess
 import sys
 import tempfile
 
-REQUESTS = 8
+REQUESTS = 16
 FORGETTING = 4
-ADOPTION = 5
 TEXT = b"A: 1\n\nA: 2\n"
 # undo of all leads there once the first edit was forgotten
 FIRST = b"A: 5\n\nA: 2\n"
-# another program saves this before the adoption, and until it is done undo of all leads there
-SAVED = b"A: 6\n"
+# another program saves these before the requests that adopt them, and until that is done undo of all leads there
+SAVED = {
+    5: b"A: 6\n",
+    7: b"A: 6\n\nA: 7\n",
+    8: b"A: 6\n\nA: 7\n\nA: 8\n",
+    9: b"A: 6\n\nA: 7\n\nA: 8",
+    10: b"A: 6\r\n\r\nA: 7\r\n\r\nA: 8\r\n",
+    11: b"A: 6\n\nA 7\n",
+    13: b"",
+    14: b"A: 7\n\nA: 6\n",
+}
+# the last of them is an older text of the history
+OLDER = 14
+# the whole text that the file is given next
+NEXT = b"B: 3\n"
 PATHS = {"1": ("db.rec", "db.rec.journal"), "2": ("a/db.rec", "b/db.rec.journal")}
 
 # What a word of the story does, to which names, and the bytes that it writes.
@@ -38,7 +51,7 @@ def folder_of(path):
 def story(stories, number, folders):
     """What a request does to the disk."""
     said = subprocess.run([stories, "log", str(number), folders], stdout=subprocess.PIPE, check=True).stdout.decode()
-    for line in said.splitlines():
+    for line in said.split("\n")[:-1]:
         word, *rest = line.split(" ", 2 if line.startswith("write ") else -1)
         content = rest.pop().replace("¶", "\n").encode() if word == "write" else b""
         yield Change(word, rest, content)
@@ -125,9 +138,9 @@ class Trial:
     def __init__(self, program, paths, at):
         self.program, self.paths, self.at = program, paths, at
 
-    def run(self, *words):
+    def run(self, *words, text=b""):
         words = [self.program, *words, "--journal", self.paths[1], self.paths[0]]
-        return subprocess.run(words, cwd=self.at, stdin=subprocess.DEVNULL, stdout=subprocess.PIPE, stderr=subprocess.PIPE, check=False)
+        return subprocess.run(words, cwd=self.at, input=text, stdout=subprocess.PIPE, stderr=subprocess.PIPE, check=False)
 
     def text(self):
         with open(os.path.join(self.at, self.paths[0]), "rb") as file:
@@ -150,22 +163,27 @@ class Trial:
         done = self.run("history", "--patch")
         return Found(self.text(), done.stdout) if done.returncode == 0 else None
 
-    def said_of(self, first):
-        """What is said of the next edit: over what another program saved it begins a new history."""
-        if first != SAVED:
+    def said_of(self, adopted):
+        """What is said of the next edit, where it begins a new history over what another program saved before this request."""
+        if adopted is None:
             return b""
         file, journal = (path.encode() for path in self.paths)
-        elsewhere = b"%s: it may be the journal of another file\n" % journal if journal != file + b".journal" else b""
-        return b"%s: it was changed outside; 1 edit before that can't be undone any more\n" % file + elsewhere
+        may_be = adopted != OLDER and journal != file + b".journal"
+        # one edit stood when the first request was made that adopts, and each request from there on makes one
+        count = adopted - min(SAVED) + 1
+        return b"%s: it was changed outside; %d %s before that can't be undone any more\n%s" % (
+            file, count, b"edit" if count == 1 else b"edits", b"%s: it may be the journal of another file\n" % journal if may_be else b"")
 
-    def goes_on(self, first):
+    def goes_on(self, first, adopted):
         """The next edit is made, and undo of all leads to the first text; returns what is wrong."""
-        made = self.run("recins", "-f", "B", "-v", "3")
-        if made.returncode != 0 or made.stdout or made.stderr != self.said_of(first):
+        made = self.run("write", "-", text=NEXT)
+        if made.returncode != 0 or made.stdout or made.stderr != self.said_of(adopted):
             return made.stderr
+        oldest = self.run("history").stdout.split()[1].decode()
+        undone = self.run("undo", "--through", oldest)
+        if undone.returncode != 0:
+            return undone.stderr
         undone = self.run("undo")
-        while undone.returncode == 0:
-            undone = self.run("undo")
         if not undone.stderr.endswith(b"recu: nothing to undo\n"):
             return undone.stderr
         if self.text() != first:
@@ -174,11 +192,9 @@ class Trial:
         return None if names == set(self.paths) else sorted(names)
 
 
-def first_text(made, number):
-    """Where undo of all leads once this number of requests were made, the next or the last of which is this one."""
-    if made == number == ADOPTION:
-        return SAVED
-    return TEXT if made <= FORGETTING else FIRST
+def first_text(made, adopted):
+    """Where undo of all leads once this number of requests were made, the next of which is to adopt what another program saved."""
+    return SAVED[adopted] if adopted is not None else TEXT if made <= FORGETTING else FIRST
 
 
 def crash(trial, disk, changes, number):
@@ -200,7 +216,9 @@ def crash(trial, disk, changes, number):
         found = trial.found()
         if found not in (before, after):
             wrong(f"request {number}, a crash after {change}: the history is lost", found, *left)
-        why = trial.goes_on(first_text(number if found == before else number + 1, number))
+        made = number if found == before else number + 1
+        adopted = number if made == number and number in SAVED else None
+        why = trial.goes_on(first_text(made, adopted), adopted)
         if why is not None:
             wrong(f"request {number}, a crash after {change}: it doesn't go on", why, *left)
     return len(lefts)
@@ -212,8 +230,8 @@ def main():
     for folders, paths in PATHS.items():
         disk = Disk(paths)
         for number in range(REQUESTS):
-            if number == ADOPTION:
-                disk.save(paths[0], SAVED)
+            if number in SAVED:
+                disk.save(paths[0], SAVED[number])
             with tempfile.TemporaryDirectory() as at:
                 crashes += crash(Trial(program, paths, at), disk, list(story(stories, number, folders)), number)
             disk.settle()

@@ -1,6 +1,6 @@
 //! A file and its journal on a disk in memory, and requests on them.
 use crate::paths::Paths;
-use crate::requests::{NEXT, TEXT, first_text, request, saved_before};
+use crate::requests::{TEXT, first_text, next_edit, request, saved_before};
 use crate::story::Story;
 use rec_disk::{Disk, MemoryDisk, MemoryFile};
 use rec_files::{Access, DiskHome, run};
@@ -120,7 +120,7 @@ impl<'r> Scene<'r> {
         self.next = None;
         let first = self.check_stands()?;
         let begun = self.disk.log.len();
-        self.make(NEXT)?;
+        self.make_next()?;
         self.next = Some(self.see(first)?);
         Ok(self.take_story(begun))
     }
@@ -174,7 +174,19 @@ impl<'r> Scene<'r> {
 
     /// Runs the request of a number, which is to be made.
     fn make(&mut self, number: usize) -> io::Result<()> {
-        if self.try_make(number)? {
+        let is_made = self.try_make(number)?;
+        self.expect(is_made)
+    }
+
+    /// Makes the next edit, which is to be made.
+    fn make_next(&mut self) -> io::Result<()> {
+        let edit = next_edit(self.rt.alloc())?;
+        let is_made = self.run(&edit, Access::Change)?;
+        self.expect(is_made)
+    }
+
+    fn expect(&self, is_made: bool) -> io::Result<()> {
+        if is_made {
             Ok(())
         } else {
             Err(self.told("a request is refused"))
@@ -260,7 +272,7 @@ impl<'r> Scene<'r> {
     /// first text.
     pub fn check_goes_on(&mut self) -> io::Result<()> {
         let first = self.check_stands()?;
-        self.make(NEXT)?;
+        self.make_next()?;
         self.undo_all()?;
         if self.disk.bytes_at(self.paths.file) == Some(first.as_bytes()) {
             Ok(())

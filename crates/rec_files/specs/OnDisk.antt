@@ -1,8 +1,9 @@
 -- What a file and its journal hold on a disk, and what a stop of the program or a crash of the machine leaves of them.
 use Rattle.std.specs.Prelude.{◌≡◌, ◌≢◌, ◌⊎◌, ◌≤◌, ℕ, Bool, true, false, List, [], ◌∷◌, length, take, Option, Some}
-use Rattle.std.specs.Prelude.{None, IfSome, option_map, IsSome, IsSomeAnd, Err}
+use Rattle.std.specs.Prelude.{None, IfSome, option_map, IsSome, IsSomeAnd, Err, string_bytes}
 use Rattle.rec_text.specs.declared.fault.Fault.TheVariants.{StoreFailed}
 use Rattle.rec_disk.specs.Disk.{State, Story, Told, AtAnyMoment}
+use Rattle.rec_disk.specs.declared.disk.Disk.{Ghosts as Disk}
 use Rattle.rec_disk.specs.declared.log.Rights.{Rights}
 use Rattle.rec_disk.specs.Rights.{Lets, AreLet, narrow, own_mode}
 use Rattle.rec_disk.specs.Lasting.{Left, Leaves, LeavesAt, LeavesInOrder, Spares, shown}
@@ -17,6 +18,7 @@ use Rattle.rec_tools.specs.Stands.{Stands}
 use Rattle.rec_tools.specs.Answers.{IsOldOrNext}
 use Rattle.rec_tools.specs.States.{State as Machine}
 use Rattle.rec_disk.specs.Paths.{working_name}
+use Rattle.rec_files.specs.declared.files.DiskHome.{DiskHome}
 use Rattle.rec_files.specs.Leftovers.{BeginsAsJournal, IsLeftJournal, IsLeftText, IsStopBetween}
 
 -- the places to which the paths of the two lead
@@ -83,11 +85,6 @@ abbrev pub IsSecure : Bool → Places → Contents → List Write → State → 
 IsSecure crash p c writes before s = (left : Left) → Leaves crash s left → AreAsBefore crash p before left
     ⊎ ((k : ℕ) × (k ≤ length writes) × Shows p left (written c (take k writes)))
 
--- a crash is only spoken of where the folders of both can be synced
-abbrev pub CanSync : (List ℕ → List ℕ) → (List ℕ → Bool) → Bool → Places → Type 0
-CanSync folder syncs crash p =
-    crash ≡ true → (syncs (folder p.file) ≡ true) × (syncs (folder p.journal) ≡ true)
-
 -- ---- what a put may touch
 
 -- what stands under the two working names, if anything does, no other program has locked, and a put that was stopped
@@ -107,36 +104,9 @@ abbrev pub AreTold : Bool → (List ℕ → List ℕ) → Sites → State → Ty
 AreTold crash folder sites s = (left : Left) → LeavesInOrder crash folder s left
     → AreLeft sites (record s { at = left.at; bytes = left.bytes })
 
--- a crash is only spoken of where the working names stand in the folders of their files, and both can be synced
-abbrev pub CanSyncAll : (List ℕ → List ℕ) → (List ℕ → Bool) → Bool → Sites → Type 0
-CanSyncAll folder syncs crash sites = crash ≡ true
-    → ((folder sites.new_file ≡ folder sites.file) × (folder sites.new_journal ≡ folder sites.journal))
-    × ((syncs (folder sites.file) ≡ true) × (syncs (folder sites.journal) ≡ true))
-
--- Stop a put at any moment, or crash the machine: what is left under the working names can be told to be left over, so
--- that the next put isn't refused for it.
-abbrev pub Recovers : (List ℕ → List ℕ) → (List ℕ → Bool) → Sites → List ℕ → Option (List ℕ) → Option Story
-    → Option Story → Type 0
-Recovers folder syncs sites journal file old new = (crash : Bool) → CanSyncAll folder syncs crash sites
-    → BeginsAsJournal journal → Told old (IsNext sites journal file) → Told old (AreTold crash folder sites)
-    → AtAnyMoment old new (λ s u. AreTold crash folder sites u)
-
 abbrev pub second : List Write → Option (List ℕ)
 second [] = None
 second (write ∷ writes) = Some write.bytes
-
--- by what is put: the journal, and then a file or none
-abbrev pub RecoversBy : (List ℕ → List ℕ) → (List ℕ → Bool) → Sites → List Write → Option Story → Option Story → Type 0
-RecoversBy folder syncs sites [] old new = Unit {0}
-RecoversBy folder syncs sites (journal ∷ writes) old new =
-    Recovers folder syncs sites journal.bytes (second writes) old new
-
--- nothing is changed; or so a put recovers, by some paths of the two
-abbrev pub RecoversAt : (List ℕ → List ℕ) → (List ℕ → List ℕ) → (List ℕ → Bool) → Places → List Write → Option Story
-    → Option Story → Type 0
-RecoversAt place folder syncs p writes old new = (new ≡ old)
-    ⊎ ((file journal : List ℕ) × Told old (λ s. (place file ≡ p.file) × (place journal ≡ p.journal))
-    × RecoversBy folder syncs (sites_of place file journal) writes old new)
 
 -- all places but the four stay as they are
 abbrev pub SparesStrangers : Sites → Option Story → Option Story → Type 0
@@ -178,29 +148,11 @@ pub record GivesRights (sites : Sites) (s u : State) : Type 0 where
   pub new_file : IsNewAt sites.new_file (IsEmptyOr (FileGets sites s)) s u
   pub new_journal : IsNewAt sites.new_journal (IsEmptyOr (JournalGets sites s)) s u
 
--- nothing is changed; or nothing but the file and its journal and what stands under their working names, where nobody's
--- file stood before, and what is new of these has its rights
-abbrev pub TouchesOwn : (List ℕ → List ℕ) → Places → Option Story → Option Story → Type 0
-TouchesOwn place p old new = (new ≡ old)
-    ⊎ ((file journal : List ℕ) × (place file ≡ p.file) × (place journal ≡ p.journal)
-    × Told old (AreLeft (sites_of place file journal)) × SparesStrangers (sites_of place file journal) old new
-    × AtAnyMoment old new (GivesRights (sites_of place file journal)))
-
 -- ---- calls
 
 -- these contents are read
 abbrev pub IsRead : Places → Contents → State → Type 0
 IsRead p c s = contents_at p s ≡ Some c
-
--- at any moment of a put a stop or a crash leaves what it might have left before, or the first of the writes made
-abbrev pub SecurePut : (List ℕ → List ℕ) → (List ℕ → Bool) → Places → List Write → Option Story → Option Story → Type 0
-SecurePut folder syncs p writes old new = (crash : Bool) (c : Contents) → CanSync folder syncs crash p
-    → Told old (IsRead p c) → AtAnyMoment old new (IsSecure crash p c writes)
-
--- and after it any later one leaves all of them
-abbrev pub LastingPut : (List ℕ → List ℕ) → (List ℕ → Bool) → Places → List Write → Option Story → Option Story → Type 0
-LastingPut folder syncs p writes old new = (crash : Bool) (c : Contents) → CanSync folder syncs crash p
-    → Told old (IsRead p c) → Told new (Holds crash p (written c writes))
 
 abbrev pub writes_of : Call → List Write
 writes_of (got which bytes) = []
@@ -214,80 +166,134 @@ abbrev pub IsWhole : Call → Type 0
 IsWhole (put_all writes) = Unit {0}
 IsWhole _ = ⊥
 
--- At any moment of a call a stop or a crash leaves what it might have left before, or the first of its writes made, and
--- after a whole one all of them; a read changes nothing, a put of the journal alone doesn't touch the file, no call
--- touches what is somebody else's, and whatever a stop or a crash leaves under the working names can be told
--- to be left over.
-pub record IsCallAt (place folder : List ℕ → List ℕ) (syncs : List ℕ → Bool) (p : Places) (old : Option Story)
-    (call : Call) (new : Option Story) : Type 0 where
-  pub any_moment : SecurePut folder syncs p (writes_of call) old new
-  pub lasts : IsWhole call → LastingPut folder syncs p (writes_of call) old new
-  pub still : writes_of call ≡ [] → new ≡ old
-  pub alone : length (writes_of call) ≤ 1 → AtAnyMoment old new (Spares p.file)
-  pub touches : TouchesOwn place p old new
-  pub recovers : RecoversAt place folder syncs p (writes_of call) old new
-
--- The home's paths stay; the file is read only where it stands; a call tells what stands there, and leaves what its
--- writes say; and it is one at their places. Of standard input nothing is said.
-pub record IsHomeCall (place folder : List ℕ → List ℕ) (syncs : List ℕ → Bool) (places now : Option Places)
-    (old : Option Story) (call : Call) (new : Option Story) (failures since : ℕ) : Type 0 where
-  pub same : now ≡ places
-  pub there : (bytes : List ℕ) → call ≡ got Base bytes → IfSome places (λ p. Told old (λ s. IsSome (s.at p.file)))
-  pub counts : CountsFailure failures call since
-  pub follows : IfSome (contents_on places old)
-      (λ c. TellsOf c call × (contents_on now new ≡ Some (left_by c call)))
-  pub calls : IfSome places (λ p. IsCallAt place folder syncs p old call new)
-
--- these bytes are a content, where the contents are told
-abbrev pub IsReadOf : (List ℕ → List ℕ) → Option (List ℕ) → List ℕ → Option Story → Which → List ℕ → Type 0
-IsReadOf leads file journal story which bytes =
-    IfSome (contents_on (places_by leads file journal) story) (λ c. bytes ≡ content_of c which)
-
--- ---- a request
-
 -- whatever is left, it might have been left before, or it stands for the state as it was or for the machine's next
 abbrev pub StandsThen : Bool → Places → Machine → Asked → State → State → Type 0
 StandsThen crash p s asked before u = (left : Left) → Leaves crash u left → AreAsBefore crash p before left
     ⊎ ((t : Machine) × IsOldOrNext s asked t × ((c : Contents) × Shows p left c × Stands c t))
 
--- From contents that stand for a state: at any moment of the request whatever is left might have been left before, or
--- stands for that state or for the next.
-abbrev pub SecureRequest : (List ℕ → List ℕ) → (List ℕ → Bool) → Places → Asked → Option Story → Option Story → Type 0
-SecureRequest folder syncs p asked old new = (crash : Bool) (c : Contents) (s : Machine) → CanSync folder syncs crash p
-    → Told old (IsRead p c) → Stands c s → IsRegular c.journal → AtAnyMoment old new (StandsThen crash p s asked)
+-- ---- by what is known of a disk: its places, its folders, its links and its story
 
--- the request changed nothing, or what is there after it is there whatever is left
-abbrev pub LastingRequest : (List ℕ → List ℕ) → (List ℕ → Bool) → Places → Option Story → Option Story → Type 0
-LastingRequest folder syncs p old new = (new ≡ old) ⊎ ((crash : Bool) (c : Contents) → CanSync folder syncs crash p
-    → Told old (IsRead p c) → Told new (λ u. (d : Contents) × Holds crash p d u))
+module _ {D F S : Type 0} (disk : Disk D F S) where
+  -- the places of a home, and its contents
+  abbrev pub places_of : {R : Type 0} → DiskHome R D F S → Option Places
+  places_of home = places_by disk.leads (option_map string_bytes home.file) (string_bytes home.journal)
 
--- Nothing is changed; or at any moment, whatever a stop or a crash leaves in order under the working names, by some
--- paths of the two, can be told to be left over, if it could before.
-abbrev pub RecoversThen : (List ℕ → List ℕ) → (List ℕ → List ℕ) → (List ℕ → Bool) → Places → Option Story
-    → Option Story → Type 0
-RecoversThen place folder syncs p old new = (new ≡ old)
-    ⊎ ((file journal : List ℕ) × Told old (λ s. (place file ≡ p.file) × (place journal ≡ p.journal))
-    × ((crash : Bool) → CanSyncAll folder syncs crash (sites_of place file journal)
-    → Told old (AreTold crash folder (sites_of place file journal))
-    → AtAnyMoment old new (λ s u. AreTold crash folder (sites_of place file journal) u)))
+  abbrev pub contents_of : {R : Type 0} → DiskHome R D F S → Option Contents
+  contents_of home = contents_on (places_of home) (disk.story home.disk)
 
--- so it is of a request, from contents with a regular journal
-abbrev pub RecoversRequest : (List ℕ → List ℕ) → (List ℕ → List ℕ) → (List ℕ → Bool) → Places → Option Story
-    → Option Story → Type 0
-RecoversRequest place folder syncs p old new = (c : Contents) → Told old (IsRead p c) → IsRegular c.journal
-    → RecoversThen place folder syncs p old new
+  -- a crash is only spoken of where the folders of both can be synced
+  abbrev pub CanSync : Bool → Places → Type 0
+  CanSync crash p = crash ≡ true
+      → (disk.syncs (disk.folder p.file) ≡ true) × (disk.syncs (disk.folder p.journal) ≡ true)
 
--- all that is said of a request on a disk, by its answer
-pub record IsRequestAt (place folder : List ℕ → List ℕ) (syncs : List ℕ → Bool) (p : Places) (asked : Asked)
-    (answer : Answer) (old new : Option Story) : Type 0 where
-  pub any_moment : SecureRequest folder syncs p asked old new
-  pub lasting : (answer ≡ Err StoreFailed) ⊎ LastingRequest folder syncs p old new
-  pub touches : TouchesOwn place p old new
-  pub recovers : RecoversRequest place folder syncs p old new
+  -- or where the working names stand in the folders of their files too
+  abbrev pub CanSyncAll : Bool → Sites → Type 0
+  CanSyncAll crash sites = crash ≡ true → ((disk.folder sites.new_file ≡ disk.folder sites.file)
+      × (disk.folder sites.new_journal ≡ disk.folder sites.journal))
+      × ((disk.syncs (disk.folder sites.file) ≡ true) × (disk.syncs (disk.folder sites.journal) ≡ true))
 
--- the same is asked for again and again, and so it is with each of these answers
-abbrev pub AreRequestsAt : (List ℕ → List ℕ) → (List ℕ → List ℕ) → (List ℕ → Bool) → Places → Asked → List Answer
-    → Option Story → Option Story → Type 0
-AreRequestsAt place folder syncs p asked [] old new = new ≡ old
-AreRequestsAt place folder syncs p asked (answer ∷ answers) old new = (mid : Option Story)
-    × IsRequestAt place folder syncs p asked answer old mid × AreRequestsAt place folder syncs p asked answers mid new
+  -- ---- a put
+
+  -- at any moment of a put a stop or a crash leaves what it might have left before, or the first of the writes made
+  abbrev pub SecurePut : Places → List Write → Option Story → Option Story → Type 0
+  SecurePut p writes old new = (crash : Bool) (c : Contents) → CanSync crash p → Told old (IsRead p c)
+      → AtAnyMoment old new (IsSecure crash p c writes)
+
+  -- and after it any later one leaves all of them
+  abbrev pub LastingPut : Places → List Write → Option Story → Option Story → Type 0
+  LastingPut p writes old new = (crash : Bool) (c : Contents) → CanSync crash p → Told old (IsRead p c)
+      → Told new (Holds crash p (written c writes))
+
+  -- nothing is changed; or nothing but the file and its journal and what stands under their working names, where
+  -- nobody's file stood before, and what is new of these has its rights
+  abbrev pub TouchesOwn : Places → Option Story → Option Story → Type 0
+  TouchesOwn p old new = (new ≡ old)
+      ⊎ ((file journal : List ℕ) × (disk.place file ≡ p.file) × (disk.place journal ≡ p.journal)
+      × Told old (AreLeft (sites_of disk.place file journal))
+      × SparesStrangers (sites_of disk.place file journal) old new
+      × AtAnyMoment old new (GivesRights (sites_of disk.place file journal)))
+
+  -- Stop a put at any moment, or crash the machine: what is left under the working names can be told to be left over,
+  -- so that the next put isn't refused for it.
+  abbrev pub Recovers : Sites → List ℕ → Option (List ℕ) → Option Story → Option Story → Type 0
+  Recovers sites journal file old new = (crash : Bool) → CanSyncAll crash sites → BeginsAsJournal journal
+      → Told old (IsNext sites journal file) → Told old (AreTold crash disk.folder sites)
+      → AtAnyMoment old new (λ s u. AreTold crash disk.folder sites u)
+
+  -- by what is put: the journal, and then a file or none
+  abbrev pub RecoversBy : Sites → List Write → Option Story → Option Story → Type 0
+  RecoversBy sites [] old new = Unit {0}
+  RecoversBy sites (journal ∷ writes) old new = Recovers sites journal.bytes (second writes) old new
+
+  -- nothing is changed; or so a put recovers, by some paths of the two
+  abbrev pub RecoversAt : Places → List Write → Option Story → Option Story → Type 0
+  RecoversAt p writes old new = (new ≡ old) ⊎ ((file journal : List ℕ)
+      × Told old (λ s. (disk.place file ≡ p.file) × (disk.place journal ≡ p.journal))
+      × RecoversBy (sites_of disk.place file journal) writes old new)
+
+  -- ---- a call
+
+  -- At any moment of a call a stop or a crash leaves what it might have left before, or the first of its writes made,
+  -- and after a whole one all of them; a read changes nothing, a put of the journal alone doesn't touch the file, no
+  -- call touches what is somebody else's, and whatever a stop or a crash leaves under the working names can be told
+  -- to be left over.
+  pub record IsCallAt (p : Places) (old : Option Story) (call : Call) (new : Option Story) : Type 0 where
+    pub any_moment : SecurePut p (writes_of call) old new
+    pub lasts : IsWhole call → LastingPut p (writes_of call) old new
+    pub still : writes_of call ≡ [] → new ≡ old
+    pub alone : length (writes_of call) ≤ 1 → AtAnyMoment old new (Spares p.file)
+    pub touches : TouchesOwn p old new
+    pub recovers : RecoversAt p (writes_of call) old new
+
+  -- The home's paths stay; the file is read only where it stands; a call tells what stands there, and leaves what its
+  -- writes say; and it is one at their places. Of standard input nothing is said.
+  pub record IsHomeCall {R : Type 0} (old : DiskHome R D F S) (call : Call) (new : DiskHome R D F S) : Type 0 where
+    pub same : places_of new ≡ places_of old
+    pub there : (bytes : List ℕ) → call ≡ got Base bytes
+        → IfSome (places_of old) (λ p. Told (disk.story old.disk) (λ s. IsSome (s.at p.file)))
+    pub counts : CountsFailure old.failed call new.failed
+    pub follows : IfSome (contents_of old) (λ c. TellsOf c call × (contents_of new ≡ Some (left_by c call)))
+    pub calls : IfSome (places_of old) (λ p. IsCallAt p (disk.story old.disk) call (disk.story new.disk))
+
+  -- these bytes are a content of a home, where its contents are told
+  abbrev pub IsReadOf : {R : Type 0} → DiskHome R D F S → Which → List ℕ → Type 0
+  IsReadOf home which bytes = IfSome (contents_of home) (λ c. bytes ≡ content_of c which)
+
+  -- ---- a request
+
+  -- From contents that stand for a state: at any moment of the request whatever is left might have been left before,
+  -- or stands for that state or for the next.
+  abbrev pub SecureRequest : Places → Asked → Option Story → Option Story → Type 0
+  SecureRequest p asked old new = (crash : Bool) (c : Contents) (s : Machine) → CanSync crash p
+      → Told old (IsRead p c) → Stands c s → IsRegular c.journal → AtAnyMoment old new (StandsThen crash p s asked)
+
+  -- the request changed nothing, or what is there after it is there whatever is left
+  abbrev pub LastingRequest : Places → Option Story → Option Story → Type 0
+  LastingRequest p old new = (new ≡ old) ⊎ ((crash : Bool) (c : Contents) → CanSync crash p → Told old (IsRead p c)
+      → Told new (λ u. (d : Contents) × Holds crash p d u))
+
+  -- Nothing is changed; or at any moment, whatever a stop or a crash leaves in order under the working names, by some
+  -- paths of the two, can be told to be left over, if it could before.
+  abbrev pub RecoversThen : Places → Option Story → Option Story → Type 0
+  RecoversThen p old new = (new ≡ old) ⊎ ((file journal : List ℕ)
+      × Told old (λ s. (disk.place file ≡ p.file) × (disk.place journal ≡ p.journal))
+      × ((crash : Bool) → CanSyncAll crash (sites_of disk.place file journal)
+      → Told old (AreTold crash disk.folder (sites_of disk.place file journal))
+      → AtAnyMoment old new (λ s u. AreTold crash disk.folder (sites_of disk.place file journal) u)))
+
+  -- so it is of a request, from contents with a regular journal
+  abbrev pub RecoversRequest : Places → Option Story → Option Story → Type 0
+  RecoversRequest p old new = (c : Contents) → Told old (IsRead p c) → IsRegular c.journal → RecoversThen p old new
+
+  -- all that is said of a request on a disk, by its answer
+  pub record IsRequestAt (p : Places) (asked : Asked) (answer : Answer) (old new : Option Story) : Type 0 where
+    pub any_moment : SecureRequest p asked old new
+    pub lasting : (answer ≡ Err StoreFailed) ⊎ LastingRequest p old new
+    pub touches : TouchesOwn p old new
+    pub recovers : RecoversRequest p old new
+
+  -- the same is asked for again and again, and so it is with each of these answers
+  abbrev pub AreRequestsAt : Places → Asked → List Answer → Option Story → Option Story → Type 0
+  AreRequestsAt p asked [] old new = new ≡ old
+  AreRequestsAt p asked (answer ∷ answers) old new =
+      (mid : Option Story) × IsRequestAt p asked answer old mid × AreRequestsAt p asked answers mid new

@@ -1,5 +1,6 @@
 -- The paths of the contents, and what links lead to. A path is its bytes.
 use Rattle.std.specs.Prelude.{◌≡◌, ◌⊎◌, ℕ, zero, suc, List, [], Option, Some, None, IsSomeAnd, option_map, unwrap_or}
+use Rattle.rec_disk.specs.declared.disk.Disk.{Ghosts as Disk}
 use Rattle.rec_disk.specs.Disk.{State}
 use Rattle.rec_disk.specs.Paths.{journal_of}
 use Rattle.rec_tools.specs.declared.home.Which.{Which}
@@ -22,13 +23,12 @@ LeadToOne leads first second s = IsSomeAnd (s.at (leads first)) (λ n. s.at (lea
 
 -- A path that leads to a file has no other journal than the file: it is the file's path, or nothing stands
 -- where its own journal would, or that is the file's journal.
-abbrev pub HasNoOtherJournal : (List ℕ → List ℕ) → (List ℕ → List ℕ) → List ℕ → List ℕ → State → Type 0
-HasNoOtherJournal place leads path file s = (file ≡ path)
-    ⊎ ((s.at (place (journal_of path)) ≡ None) ⊎ LeadToOne leads (journal_of path) (journal_of file) s)
+abbrev pub HasNoOtherJournal : {D F S : Type 0} → Disk D F S → List ℕ → List ℕ → State → Type 0
+HasNoOtherJournal disk path file s = (file ≡ path)
+    ⊎ ((s.at (disk.place (journal_of path)) ≡ None) ⊎ LeadToOne disk.leads (journal_of path) (journal_of file) s)
 
 -- where no journal is given, a path is that of this file, after its links, with this journal
-pub record AreDefaultPaths (place leads : List ℕ → List ℕ) (link : List ℕ → Option (List ℕ))
-    (path file journal : List ℕ) (s : State) : Type 0 where
-  pub file_is : end_of link 40 path ≡ Some file
+pub record AreDefaultPaths {D F S : Type 0} (disk : Disk D F S) (path file journal : List ℕ) (s : State) : Type 0 where
+  pub file_is : end_of disk.link 40 path ≡ Some file
   pub journal_is : journal ≡ journal_of file
-  pub alone : HasNoOtherJournal place leads path file s
+  pub alone : HasNoOtherJournal disk path file s

@@ -6,6 +6,7 @@ use Rattle.std.specs.List.{AllByRecursion}
 use Rattle.std.specs.Option.{option_and_then}
 use Rattle.std.specs.declared.io.Error.{Error}
 use Rattle.rec_disk.specs.Disk.{State, Story, Look, Told, SaysOf, IsLookAt, IsMemory}
+use Rattle.rec_disk.specs.declared.disk.Disk.{Ghosts as Disk}
 use Rattle.rec_tools.specs.Home.{Call, Write, got, unread, put_all, put_some}
 use Rattle.rec_tools.specs.declared.home.Which.{Which}
 use Rattle.rec_tools.specs.declared.home.Which.TheVariants.{Base, Journal}
@@ -21,7 +22,7 @@ use Rattle.rec_files.specs.declared.both.Both.{Both}
 use Rattle.rec_files.specs.declared.files.DiskHome.{DiskHome}
 use Rattle.rec_disk.specs.Paths.{working_name}
 use Rattle.rec_files.specs.Paths.{path_of, end_of}
-use Rattle.rec_files.specs.OnDisk.{Sites, sites_of, AreLeft, IsHomeCall, places_by, or_empty}
+use Rattle.rec_files.specs.OnDisk.{Sites, sites_of, AreLeft, IsHomeCall, or_empty}
 use Rattle.rec_disk.specs.Lasting.{shown}
 
 -- the disk tells its story, and this holds of its state
@@ -60,14 +61,6 @@ pub record Known : Type 0 where
   pub number : Option ℕ
   pub look : Option (Option Look)
 
-abbrev pub known : {D F S : Type 0} → (F → ℕ) → (S → Option Look) → Target D F S → Known
-known number tells target = record {
-  given = string_bytes target.given;
-  path = target.names;
-  number = option_map (λ opened. number opened.file) target.old;
-  look = option_map (λ opened. tells opened.seen) target.old;
-}
-
 -- ---- what was seen
 
 -- the look, if there is one, was at a regular file
@@ -99,69 +92,9 @@ pub record AreApart (sites : Sites) : Type 0 where
   pub journal_new_file : sites.journal ≢ sites.new_file
   pub new_pair : sites.new_journal ≢ sites.new_file
 
--- what was read stands there, as it was seen, and the path as it was given leads there
-pub record StandsAsSeen (place leads : List ℕ → List ℕ) (known : Known) (s : State) : Type 0 where
-  pub at : s.at (place known.path) ≡ known.number
-  pub seen : HasSeen (place known.path) known.look s
-  pub led : leads known.given ≡ place known.path
-
--- both are as they were seen, and the journal is a regular file or missing
-pub record AreUnchanged (place leads : List ℕ → List ℕ) (regular : ℕ → Bool) (file journal : Known) (s : State)
-    : Type 0 where
-  pub file_stands : StandsAsSeen place leads file s
-  pub journal_stands : StandsAsSeen place leads journal s
-  pub is_regular : SawRegular regular journal.look
-
--- ---- what is left over
-
--- under a name, which leads to its own place, stands a regular file, and it is neither of the two
-pub record IsOther (place leads : List ℕ → List ℕ) (regular : ℕ → Bool) (name : List ℕ) (file journal : Known) (n : ℕ)
-    : Type 0 where
-  pub is_regular : regular n ≡ true
-  pub not_file : SawAnother n file.look
-  pub not_journal : SawAnother n journal.look
-  pub straight : leads name ≡ place name
-
--- what was read still stands there
-pub record StillStands (place : List ℕ → List ℕ) (known : Known) (s : State) : Type 0 where
-  pub at : s.at (place known.path) ≡ known.number
-  pub seen : HasSeen (place known.path) known.look s
-
 -- a file isn't longer than what is read
 abbrev pub IsShort : State → ℕ → Type 0
 IsShort s n = length (s.bytes n) ≤ 1_073_741_824
-
--- what stands under the working name of the file can be compared with the two
-pub record CanCompare (place : List ℕ → List ℕ) (file journal : Known) (n : ℕ) (s : State) : Type 0 where
-  pub short : IsShort s n
-  pub file_stands : StillStands place file s
-  pub file_short : IfSome file.number (IsShort s)
-  pub journal_stands : StillStands place journal s
-  pub journal_short : IfSome journal.number (IsShort s)
-
--- ---- where a put begins
-
--- What stands under the two working names was left over and isn't locked; it is a regular file, and neither of the two;
--- and where it has to be compared with the two, nothing of it is too long. The four are apart.
-pub record CanClear (place leads : List ℕ → List ℕ) (regular : ℕ → Bool) (file journal : Known) (s : State)
-    : Type 0 where
-  pub apart : AreApart (sites_of place file.path journal.path)
-  pub left : AreLeft (sites_of place file.path journal.path) s
-  pub new_journal : IfSome (s.at (place (working_name journal.path)))
-      (IsOther place leads regular (working_name journal.path) file journal)
-  pub new_file : IfSome (s.at (place (working_name file.path))) (λ n.
-      IsOther place leads regular (working_name file.path) file journal n
-      × (IsSome (s.at (place (working_name journal.path))) ⊎ CanCompare place file journal n s))
-
--- and both are as they were seen, after fewer than 40 links in a row at each of the given paths,
--- and the file is a regular one
-pub record CanPrepare (place leads : List ℕ → List ℕ) (link : List ℕ → Option (List ℕ)) (regular : ℕ → Bool)
-    (given_file given_journal : List ℕ) (file journal : Known) (s : State) : Type 0 where
-  pub unchanged : AreUnchanged place leads regular file journal s
-  pub is_regular : SawRegular regular file.look
-  pub file_end : end_of link 40 given_file ≡ Some file.path
-  pub journal_end : end_of link 40 given_journal ≡ Some journal.path
-  pub clear : CanClear place leads regular file journal s
 
 -- ---- what can be read
 
@@ -181,21 +114,6 @@ abbrev pub other_for : Which → Option (Option Look) → Option (Option Look)
 other_for Base seen = None
 other_for Journal seen = seen
 
--- What a request reads of the two, by its paths, and by what the disk said of the file when that was read: a regular
--- file that is not too long, and a journal may be missing. Where the request only looks, the journal is not the file
--- that stands there. Where it may write, fewer than 40 links in a row stand at the path, no other program has locked
--- what is there, and the journal is not the file that was read.
-pub record IsReadable (leads : List ℕ → List ℕ) (link : List ℕ → Option (List ℕ)) (regular : ℕ → Bool)
-    (access : Access) (file : Option (List ℕ)) (journal : List ℕ) (seen : Option (Option Look)) (which : Which)
-    (s : State) : Type 0 where
-  pub given : which ≡ Base → IsSome file
-  pub there : IsThere which (path_of file journal which) (λ n. IsShort s n × (regular n ≡ true))
-      (s.at (leads (path_of file journal which)))
-  pub apart : access ≡ Looks → which ≡ Journal → IfSome (s.at (leads journal)) (λ n. IfSome file (λ path.
-      IsSomeAnd (s.at (leads path)) (λ m. m ≢ n)))
-  pub free : access ≡ Changes → IfSome (s.at (leads (path_of file journal which)))
-      (λ n. IsUnlocked (other_for which seen) s n × IsSome (end_of link 40 (path_of file journal which)))
-
 -- ---- the journal that was put last
 
 -- this holds, where the journal that was put last is still locked
@@ -214,28 +132,7 @@ let_go (LetGo bytes) = Some bytes.items
 abbrev pub BeginsWith : List ℕ → List ℕ → Type 0
 BeginsWith first text = (rest : List ℕ) × (text ≡ first ++ rest)
 
--- these bytes stand at a path, or none are there and nothing stands there
-abbrev pub IsStanding : (List ℕ → List ℕ) → List ℕ → List ℕ → State → Type 0
-IsStanding leads path bytes s = bytes ≡ or_empty (shown s.bytes (s.at (leads path)))
-
--- it can be read before its lock is let go: a regular file that is not too long, or it is missing
-abbrev pub CanLetGo : (List ℕ → List ℕ) → (ℕ → Bool) → List ℕ → LastPut → State → Type 0
-CanLetGo leads regular journal last s = IfLocked last (IsThere Journal journal (λ n. IsShort s n × (regular n ≡ true))
-    (s.at (leads journal)))
-
--- a read of the file can let go of the journal that was put last, and for a read of the journal the one that was let go
--- still comes first in what stands there
-abbrev pub CanGoOn : (List ℕ → List ℕ) → (ℕ → Bool) → List ℕ → LastPut → Which → State → Type 0
-CanGoOn leads regular journal last Base s = CanLetGo leads regular journal last s
-CanGoOn leads regular journal last Journal s = IfSome (let_go last)
-    (λ last. BeginsWith last (or_empty (shown s.bytes (s.at (leads journal)))))
-
--- what was let go is what was before, or it is what stands at the journal's path
-abbrev pub IsLastOf : (List ℕ → List ℕ) → List ℕ → LastPut → LastPut → Option Story → Type 0
-IsLastOf leads journal old new story = IfSome (let_go new)
-    (λ last. (let_go old ≡ Some last) ⊎ Told story (IsStanding leads journal last))
-
--- ---- what a home needs
+-- ---- what a home knows
 
 -- what a home was given, and what it knows of what it read, and of what it put last
 pub record Kept : Type 0 where
@@ -246,108 +143,201 @@ pub record Kept : Type 0 where
   pub old_file : Option Known
   pub old_journal : Option Known
 
-abbrev pub kept : {R D F S : Type 0} → (F → ℕ) → (S → Option Look) → DiskHome R D F S → Kept
-kept number tells home = record {
-  access = home.access;
-  file = option_map string_bytes home.file;
-  journal = string_bytes home.journal;
-  last = home.last;
-  old_file = option_map (known number tells) home.both.file;
-  old_journal = option_map (known number tells) home.both.journal;
-}
+-- ---- by what is known of a disk: its places, its links, its files, its story, and whether it works
 
--- What a put needs: what is put can be read again, and it may begin with what was read.
-pub record CanPut (place leads : List ℕ → List ℕ) (link : List ℕ → Option (List ℕ)) (regular : ℕ → Bool) (kept : Kept)
-    (writes : List Write) (s : State) : Type 0 where
-  pub short : AllByRecursion (λ write. length write.bytes ≤ 1_073_741_824) writes
-  pub begins : IsSomeAnd kept.old_file (λ file. IsSomeAnd kept.old_journal (λ journal.
-      CanPrepare place leads link regular (path_of kept.file kept.journal Base) kept.journal file journal s))
+module _ {D F S : Type 0} (disk : Disk D F S) where
+  -- what is known of one of the two, and what a home knows
+  abbrev pub known : Target D F S → Known
+  known target = record {
+    given = string_bytes target.given;
+    path = target.names;
+    number = option_map (λ opened. disk.number opened.file) target.old;
+    look = option_map (λ opened. disk.tells opened.seen) target.old;
+  }
 
--- what a call that failed needed was there
-abbrev pub HadAll : (List ℕ → List ℕ) → (List ℕ → List ℕ) → (List ℕ → Option (List ℕ)) → (ℕ → Bool) → Kept → Call
-    → State → Type 0
-HadAll place leads link regular kept (unread which) s =
-    IsReadable leads link regular kept.access kept.file kept.journal
-    (option_and_then (λ known. known.look) kept.old_file) which s × CanGoOn leads regular kept.journal kept.last which s
-HadAll place leads link regular kept (put_some writes k) s = CanPut place leads link regular kept writes s
-HadAll place leads link regular kept _ s = ⊥
+  abbrev pub kept : {R : Type 0} → DiskHome R D F S → Kept
+  kept home = record {
+    access = home.access;
+    file = option_map string_bytes home.file;
+    journal = string_bytes home.journal;
+    last = home.last;
+    old_file = option_map known home.both.file;
+    old_journal = option_map known home.both.journal;
+  }
 
--- A disk that works does so after the call too. And if the call failed though all was there that it needed, it failed
--- for memory, as the home noted last.
-pub record IsExcused (place leads : List ℕ → List ℕ) (link : List ℕ → Option (List ℕ)) (regular : ℕ → Bool)
-    (kept : Kept) (works still : Type 0) (failure : Option Failure) (story : Option Story) (call : Call) : Type 0 where
-  pub works_still : works → still
-  pub for_memory : works → IsTold story (HadAll place leads link regular kept call) → IsSomeAnd failure FailedForMemory
+  -- ---- what still stands
 
--- ---- what is read and then replaced
+  -- what was read still stands there
+  pub record StillStands (known : Known) (s : State) : Type 0 where
+    pub at : s.at (disk.place known.path) ≡ known.number
+    pub seen : HasSeen (disk.place known.path) known.look s
 
--- what stands at a path was seen, and no other program had locked it
-pub record IsReadFree (leads : List ℕ → List ℕ) (regular : ℕ → Bool) (path : List ℕ) (look : Option (Option Look))
-    (s : State) : Type 0 where
-  pub seen : HasSeen (leads path) look s
-  pub free : IfSome (s.at (leads path)) (λ n. regular n ≡ true → s.held n ≡ false)
+  -- as it was seen, and the path as it was given leads there
+  pub record StandsAsSeen (known : Known) (s : State) : Type 0 where
+    pub at : s.at (disk.place known.path) ≡ known.number
+    pub seen : HasSeen (disk.place known.path) known.look s
+    pub led : disk.leads known.given ≡ disk.place known.path
 
--- a read notes what it saw, and a read of the journal leaves what is noted of the file
-abbrev pub NotesRead : (List ℕ → List ℕ) → (ℕ → Bool) → Kept → Kept → Option Story → Call → Type 0
-NotesRead leads regular old new story (got Base bytes) = IfSome old.file (λ path.
-    IsSomeAnd new.old_file (λ file. Told story (IsReadFree leads regular path file.look)))
-NotesRead leads regular old new story (got Journal bytes) = (new.old_file ≡ old.old_file)
-    × IsSomeAnd new.old_journal (λ journal. Told story (IsReadFree leads regular old.journal journal.look))
-NotesRead leads regular old new story _ = Unit {0}
+  -- both are as they were seen, and the journal is a regular file or missing
+  pub record AreUnchanged (file journal : Known) (s : State) : Type 0 where
+    pub file_stands : StandsAsSeen file s
+    pub journal_stands : StandsAsSeen journal s
+    pub is_regular : SawRegular disk.regular journal.look
 
--- what stands at a path is a regular file, or nothing does
-abbrev pub IsRegularAt : (List ℕ → List ℕ) → (ℕ → Bool) → List ℕ → State → Type 0
-IsRegularAt leads regular path s = IfSome (s.at (leads path)) (λ n. regular n ≡ true)
+  -- these bytes stand at a path, or none are there and nothing stands there
+  abbrev pub IsStanding : List ℕ → List ℕ → State → Type 0
+  IsStanding path bytes s = bytes ≡ or_empty (shown s.bytes (s.at (disk.leads path)))
 
--- a home with a journal reads regular files alone, standard input aside; one without one reads a pipe too
-abbrev pub ReadsRegular : (List ℕ → List ℕ) → (ℕ → Bool) → Kept → Option Story → Call → Type 0
-ReadsRegular leads regular kept story (got which bytes) = kept.journal ≢ [] → IfSome kept.file (λ _.
-    Told story (IsRegularAt leads regular (path_of kept.file kept.journal which)))
-ReadsRegular leads regular kept story _ = Unit {0}
+  -- what stands at a path is a regular file, or nothing does
+  abbrev pub IsRegularAt : List ℕ → State → Type 0
+  IsRegularAt path s = IfSome (s.at (disk.leads path)) (λ n. disk.regular n ≡ true)
 
--- both stand as it is noted of them
-abbrev pub AreAsNoted : (List ℕ → List ℕ) → Kept → State → Type 0
-AreAsNoted leads kept s =
-    IsSomeAnd kept.old_file (λ file. IsAsSeen (leads (path_of kept.file kept.journal Base)) file.look s)
-    × IsSomeAnd kept.old_journal (λ journal. IsAsSeen (leads kept.journal) journal.look s)
+  -- a regular file that is not too long can be read
+  abbrev pub CanBeRead : State → ℕ → Type 0
+  CanBeRead s n = IsShort s n × (disk.regular n ≡ true)
 
--- a put that succeeds finds both so, and one that fails and doesn't changes nothing
-abbrev pub ReplacesNoted : (List ℕ → List ℕ) → Kept → Option Story → Call → Option Story → Type 0
-ReplacesNoted leads kept old (put_all writes) new = Told old (AreAsNoted leads kept)
-ReplacesNoted leads kept old (put_some writes k) new = (new ≡ old) ⊎ Told old (AreAsNoted leads kept)
-ReplacesNoted leads kept old _ new = Unit {0}
+  -- ---- what is left over
 
--- A home that put a journal holds it locked, and both as it read them. The next read of the file notes what stands of
--- the journal, before its lock is let go; and the next one of the journal finds this at its beginning: who wrote there
--- meanwhile only added to it.
-abbrev pub GoesOn : (List ℕ → List ℕ) → Kept → Kept → Option Story → Call → Type 0
-GoesOn leads kept now story (got Base bytes) = IfLocked kept.last (IsSomeAnd (let_go now.last)
-    (λ last. Told story (IsStanding leads kept.journal last)))
-GoesOn leads kept now story (got Journal bytes) = IfSome (let_go kept.last) (λ last. BeginsWith last bytes)
-GoesOn leads kept now story (put_all writes) =
-    (now.last ≡ Locked) × ((now.old_file ≡ kept.old_file) × (now.old_journal ≡ kept.old_journal))
-GoesOn leads kept now story _ = Unit {0}
+  -- under a name, which leads to its own place, stands a regular file, and it is neither of the two
+  pub record IsOther (name : List ℕ) (file journal : Known) (n : ℕ) : Type 0 where
+    pub is_regular : disk.regular n ≡ true
+    pub not_file : SawAnother n file.look
+    pub not_journal : SawAnother n journal.look
+    pub straight : disk.leads name ≡ disk.place name
 
--- what a home may do stays; one with a journal reads regular files alone; one that may write reads nothing that another
--- program has locked, and notes what it reads; nothing is replaced but what is noted; and what is read after a put goes
--- on from the journal that was put
-pub record IsCareful (leads : List ℕ → List ℕ) (regular : ℕ → Bool) (kept now : Kept) (old : Option Story) (call : Call)
-    (new : Option Story) : Type 0 where
-  pub access : now.access ≡ kept.access
-  pub only_regular : ReadsRegular leads regular kept old call
-  pub reads : kept.access ≡ Changes → NotesRead leads regular kept now old call
-  pub puts : ReplacesNoted leads kept old call new
-  pub goes_on : GoesOn leads kept now old call
-  pub last : IsLastOf leads kept.journal kept.last now.last old
+  -- what stands under the working name of the file can be compared with the two
+  pub record CanCompare (file journal : Known) (n : ℕ) (s : State) : Type 0 where
+    pub short : IsShort s n
+    pub file_stands : StillStands file s
+    pub file_short : IfSome file.number (IsShort s)
+    pub journal_stands : StillStands journal s
+    pub journal_short : IfSome journal.number (IsShort s)
 
--- what becomes of a home by a call
-abbrev pub HomeGoes : {R D F S : Type 0} → (List ℕ → List ℕ) → (List ℕ → List ℕ) → (List ℕ → Option (List ℕ))
-    → (List ℕ → List ℕ) → (List ℕ → Bool) → (ℕ → Bool) → (F → ℕ) → (S → Option Look) → (D → Option Story)
-    → (D → Type 0) → DiskHome R D F S → Call → DiskHome R D F S → Type 0
-HomeGoes place leads link folder syncs regular number tells story works old call new =
-    IsHomeCall place folder syncs (places_by leads (option_map string_bytes old.file) (string_bytes old.journal))
-    (places_by leads (option_map string_bytes new.file) (string_bytes new.journal))
-    (story old.disk) call (story new.disk) old.failed new.failed
-    × (IsExcused place leads link regular (kept number tells old) (works old.disk) (works new.disk) new.failure
-    (story old.disk) call
-    × IsCareful leads regular (kept number tells old) (kept number tells new) (story old.disk) call (story new.disk))
+  -- ---- where a put begins
+
+  -- What stands under the two working names was left over and isn't locked; it is a regular file, and neither of the
+  -- two; and where it has to be compared with the two, nothing of it is too long. The four are apart.
+  pub record CanClear (file journal : Known) (s : State) : Type 0 where
+    pub apart : AreApart (sites_of disk.place file.path journal.path)
+    pub left : AreLeft (sites_of disk.place file.path journal.path) s
+    pub new_journal : IfSome (s.at (disk.place (working_name journal.path)))
+        (IsOther (working_name journal.path) file journal)
+    pub new_file : IfSome (s.at (disk.place (working_name file.path))) (λ n.
+        IsOther (working_name file.path) file journal n
+        × (IsSome (s.at (disk.place (working_name journal.path))) ⊎ CanCompare file journal n s))
+
+  -- and both are as they were seen, after fewer than 40 links in a row at each of the given paths,
+  -- and the file is a regular one
+  pub record CanPrepare (given_file given_journal : List ℕ) (file journal : Known) (s : State) : Type 0 where
+    pub unchanged : AreUnchanged file journal s
+    pub is_regular : SawRegular disk.regular file.look
+    pub file_end : end_of disk.link 40 given_file ≡ Some file.path
+    pub journal_end : end_of disk.link 40 given_journal ≡ Some journal.path
+    pub clear : CanClear file journal s
+
+  -- ---- what a call needs
+
+  -- What a request reads of the two, by its paths, and by what the disk said of the file when that was read: a regular
+  -- file that is not too long, and a journal may be missing. Where the request only looks, the journal is not the file
+  -- that stands there. Where it may write, fewer than 40 links in a row stand at the path, no other program has locked
+  -- what is there, and the journal is not the file that was read.
+  pub record IsReadable (access : Access) (file : Option (List ℕ)) (journal : List ℕ) (seen : Option (Option Look))
+      (which : Which) (s : State) : Type 0 where
+    pub given : which ≡ Base → IsSome file
+    pub there : IsThere which (path_of file journal which) (CanBeRead s)
+        (s.at (disk.leads (path_of file journal which)))
+    pub apart : access ≡ Looks → which ≡ Journal → IfSome (s.at (disk.leads journal)) (λ n. IfSome file (λ path.
+        IsSomeAnd (s.at (disk.leads path)) (λ m. m ≢ n)))
+    pub free : access ≡ Changes → IfSome (s.at (disk.leads (path_of file journal which)))
+        (λ n. IsUnlocked (other_for which seen) s n × IsSome (end_of disk.link 40 (path_of file journal which)))
+
+  -- A read of the file can let go of the journal that was put last: that can be read before, or it is missing. And for
+  -- a read of the journal the one that was let go still comes first in what stands there.
+  abbrev pub CanGoOn : List ℕ → LastPut → Which → State → Type 0
+  CanGoOn journal last Base s = IfLocked last (IsThere Journal journal (CanBeRead s) (s.at (disk.leads journal)))
+  CanGoOn journal last Journal s = IfSome (let_go last)
+      (λ last. BeginsWith last (or_empty (shown s.bytes (s.at (disk.leads journal)))))
+
+  -- What a put needs: what is put can be read again, and it may begin with what was read.
+  pub record CanPut (kept : Kept) (writes : List Write) (s : State) : Type 0 where
+    pub short : AllByRecursion (λ write. length write.bytes ≤ 1_073_741_824) writes
+    pub begins : IsSomeAnd kept.old_file (λ file. IsSomeAnd kept.old_journal (λ journal.
+        CanPrepare (path_of kept.file kept.journal Base) kept.journal file journal s))
+
+  -- what a call that failed needed was there
+  abbrev pub HadAll : Kept → Call → State → Type 0
+  HadAll kept (unread which) s = IsReadable kept.access kept.file kept.journal
+      (option_and_then (λ known. known.look) kept.old_file) which s × CanGoOn kept.journal kept.last which s
+  HadAll kept (put_some writes k) s = CanPut kept writes s
+  HadAll kept _ s = ⊥
+
+  -- A disk that works does so after the call too. And if the call failed though all was there that it needed, it failed
+  -- for memory, as the home noted last.
+  pub record IsExcused {R : Type 0} (old : DiskHome R D F S) (call : Call) (new : DiskHome R D F S) : Type 0 where
+    pub works_still : disk.works old.disk → disk.works new.disk
+    pub for_memory : disk.works old.disk → IsTold (disk.story old.disk) (HadAll (kept old) call)
+        → IsSomeAnd new.failure FailedForMemory
+
+  -- ---- what is read and then replaced
+
+  -- what stands at a path was seen, and no other program had locked it
+  pub record IsReadFree (path : List ℕ) (look : Option (Option Look)) (s : State) : Type 0 where
+    pub seen : HasSeen (disk.leads path) look s
+    pub free : IfSome (s.at (disk.leads path)) (λ n. disk.regular n ≡ true → s.held n ≡ false)
+
+  -- a read notes what it saw, and a read of the journal leaves what is noted of the file
+  abbrev pub NotesRead : Kept → Kept → Option Story → Call → Type 0
+  NotesRead old new story (got Base bytes) = IfSome old.file (λ path.
+      IsSomeAnd new.old_file (λ file. Told story (IsReadFree path file.look)))
+  NotesRead old new story (got Journal bytes) = (new.old_file ≡ old.old_file)
+      × IsSomeAnd new.old_journal (λ journal. Told story (IsReadFree old.journal journal.look))
+  NotesRead old new story _ = Unit {0}
+
+  -- a home with a journal reads regular files alone, standard input aside; one without one reads a pipe too
+  abbrev pub ReadsRegular : Kept → Option Story → Call → Type 0
+  ReadsRegular kept story (got which bytes) = kept.journal ≢ [] → IfSome kept.file (λ _.
+      Told story (IsRegularAt (path_of kept.file kept.journal which)))
+  ReadsRegular kept story _ = Unit {0}
+
+  -- both stand as it is noted of them
+  abbrev pub AreAsNoted : Kept → State → Type 0
+  AreAsNoted kept s =
+      IsSomeAnd kept.old_file (λ file. IsAsSeen (disk.leads (path_of kept.file kept.journal Base)) file.look s)
+      × IsSomeAnd kept.old_journal (λ journal. IsAsSeen (disk.leads kept.journal) journal.look s)
+
+  -- a put that succeeds finds both so, and one that fails and doesn't changes nothing
+  abbrev pub ReplacesNoted : Kept → Option Story → Call → Option Story → Type 0
+  ReplacesNoted kept old (put_all writes) new = Told old (AreAsNoted kept)
+  ReplacesNoted kept old (put_some writes k) new = (new ≡ old) ⊎ Told old (AreAsNoted kept)
+  ReplacesNoted kept old _ new = Unit {0}
+
+  -- A home that put a journal holds it locked, and both as it read them. The next read of the file notes what stands
+  -- of the journal, before its lock is let go; and the next one of the journal finds this at its beginning: who wrote
+  -- there meanwhile only added to it.
+  abbrev pub GoesOn : Kept → Kept → Option Story → Call → Type 0
+  GoesOn kept now story (got Base bytes) = IfLocked kept.last (IsSomeAnd (let_go now.last)
+      (λ last. Told story (IsStanding kept.journal last)))
+  GoesOn kept now story (got Journal bytes) = IfSome (let_go kept.last) (λ last. BeginsWith last bytes)
+  GoesOn kept now story (put_all writes) =
+      (now.last ≡ Locked) × ((now.old_file ≡ kept.old_file) × (now.old_journal ≡ kept.old_journal))
+  GoesOn kept now story _ = Unit {0}
+
+  -- what was let go is what was before, or it is what stands at the journal's path
+  abbrev pub IsLastOf : List ℕ → LastPut → LastPut → Option Story → Type 0
+  IsLastOf journal old new story = IfSome (let_go new)
+      (λ last. (let_go old ≡ Some last) ⊎ Told story (IsStanding journal last))
+
+  -- what a home may do stays; one with a journal reads regular files alone; one that may write reads nothing that
+  -- another program has locked, and notes what it reads; nothing is replaced but what is noted; and what is read after
+  -- a put goes on from the journal that was put
+  pub record IsCareful {R : Type 0} (old : DiskHome R D F S) (call : Call) (new : DiskHome R D F S) : Type 0 where
+    pub access : new.access ≡ old.access
+    pub only_regular : ReadsRegular (kept old) (disk.story old.disk) call
+    pub reads : old.access ≡ Changes → NotesRead (kept old) (kept new) (disk.story old.disk) call
+    pub puts : ReplacesNoted (kept old) (disk.story old.disk) call (disk.story new.disk)
+    pub goes_on : GoesOn (kept old) (kept new) (disk.story old.disk) call
+    pub last : IsLastOf (string_bytes old.journal) old.last new.last (disk.story old.disk)
+
+  -- what becomes of a home by a call
+  abbrev pub HomeGoes : {R : Type 0} → DiskHome R D F S → Call → DiskHome R D F S → Type 0
+  HomeGoes old call new = IsHomeCall disk old call new × (IsExcused old call new × IsCareful old call new)

@@ -39,7 +39,7 @@ impl<D: Disk + Drop> Model for Ahead<D> {
     ghost view = { λ ahead. ahead.disk };
 
     ghost invariant = { λ ahead. IfSome ahead.journal (λ read. Told (D.story ahead.disk)
-        (IsAhead D.leads D.regular (string_bytes read.path) read.bytes.items)) };
+        (IsAhead D.Disk (string_bytes read.path) read.bytes.items)) };
 }
 
 impl<D: Disk + Drop> Ahead<D> {
@@ -70,15 +70,15 @@ impl<D: Disk + Drop> Ahead<D> {
         journal: &String,
     ) -> io::Result<Vec<u8>>
         ensures same { D.story self.new ≡ D.story self.old }
-        ensures whole { IfOk result (λ bytes. Told (D.story self.old) (IsStanding D.leads path.now bytes.items)) }
+        ensures whole { IfOk result (λ bytes. Told (D.story self.old) (IsStanding D.Disk path.now bytes.items)) }
         ensures there { which ≡ Which.Base
             → OnOk result (Told (D.story self.old) (λ s. IsSome (s.at (D.leads path.now)))) }
-        ensures regular { string_bytes journal.now ≢ []
-            → OnOk result (Told (D.story self.old) (IsRegularAt D.leads D.regular path.now)) }
-        ensures succeeds { Succeeds IsMemory D.works D.story self.old self.new result (λ s. (string_bytes journal.now ≢
-            [] → IsRegularAt D.leads D.regular path.now s) × IsThere which path.now (λ n. IsShort s n × (which ≡
-            Which.Journal → IsOwnJournal (option_map (λ file. s.at (D.leads (string_bytes file))) file.now) n)) (s.at
-            (D.leads path.now))) }
+        ensures regular { string_bytes journal.now ≢ [] → OnOk result (Told (D.story self.old)
+            (IsRegularAt D.Disk path.now)) }
+        ensures succeeds { Succeeds D.Disk IsMemory self.old self.new result (λ s. (string_bytes journal.now ≢ []
+            → IsRegularAt D.Disk path.now s) × IsThere which path.now (λ n. IsShort s n
+            × (which ≡ Which.Journal → IsOwnJournal (option_map (λ file. s.at (D.leads (string_bytes file))) file.now)
+            n)) (s.at (D.leads path.now))) }
     {
         let only_regular = !journal.is_empty();
         match which {
@@ -104,8 +104,7 @@ impl<D: Disk + Drop> Ahead<D> {
     /// What was read ahead at a path, once.
     fn take(&mut self, path: &str) -> Option<Vec<u8>>
         ensures same { self.new ≡ self.old }
-        ensures standing { IfSome result (λ bytes. Told (D.story self.old)
-            (IsAhead D.leads D.regular path.now bytes.items)) }
+        ensures standing { IfSome result (λ bytes. Told (D.story self.old) (IsAhead D.Disk path.now bytes.items)) }
     {
         let ReadAhead { path: there, bytes } = self.journal.take()?;
         if there.as_str() == path {
@@ -125,12 +124,12 @@ fn read_both<D: Disk>(
     journal: &str,
 ) -> io::Result<(Vec<u8>, Option<ReadAhead>)>
     ensures same { D.story disk.new ≡ D.story disk.old }
-    ensures whole { IfOk result (λ read. Told (D.story disk.old) (IsStanding D.leads path.now read.0.items)) }
+    ensures whole { IfOk result (λ read. Told (D.story disk.old) (IsStanding D.Disk path.now read.0.items)) }
     ensures there { OnOk result (Told (D.story disk.old) (λ s. IsSome (s.at (D.leads path.now)))) }
-    ensures regular { OnOk result (Told (D.story disk.old) (IsRegularAt D.leads D.regular path.now)) }
+    ensures regular { OnOk result (Told (D.story disk.old) (IsRegularAt D.Disk path.now)) }
     ensures ahead { IfOk result (λ read. IfSome read.1 (λ ahead. Told (D.story disk.old)
-        (IsAhead D.leads D.regular (string_bytes ahead.path) ahead.bytes.items))) }
-    ensures succeeds { Succeeds IsMemory D.works D.story disk.old disk.new result (CanLook D.leads D.regular path.now) }
+        (IsAhead D.Disk (string_bytes ahead.path) ahead.bytes.items))) }
+    ensures succeeds { Succeeds D.Disk IsMemory disk.old disk.new result (CanLook D.Disk path.now) }
 {
     for _ in 0..TRIES {
         let seen = disk.status_after_links(path);
@@ -146,10 +145,10 @@ fn read_both<D: Disk>(
 /// The bytes of a regular file.
 fn read_file<D: Disk>(disk: &mut D, alloc: Global, path: &str) -> io::Result<Vec<u8>>
     ensures same { D.story disk.new ≡ D.story disk.old }
-    ensures whole { IfOk result (λ bytes. Told (D.story disk.old) (IsStanding D.leads path.now bytes.items)) }
+    ensures whole { IfOk result (λ bytes. Told (D.story disk.old) (IsStanding D.Disk path.now bytes.items)) }
     ensures there { OnOk result (Told (D.story disk.old) (λ s. IsSome (s.at (D.leads path.now)))) }
-    ensures regular { OnOk result (Told (D.story disk.old) (IsRegularAt D.leads D.regular path.now)) }
-    ensures succeeds { Succeeds IsMemory D.works D.story disk.old disk.new result (CanLook D.leads D.regular path.now) }
+    ensures regular { OnOk result (Told (D.story disk.old) (IsRegularAt D.Disk path.now)) }
+    ensures succeeds { Succeeds D.Disk IsMemory disk.old disk.new result (CanLook D.Disk path.now) }
 {
     look_at(disk, alloc, Which::Base, path, &None, true)
 }
@@ -163,8 +162,8 @@ fn read_ahead<D: Disk>(
 ) -> Option<ReadAhead>
     ensures same { D.story disk.new ≡ D.story disk.old }
     ensures works { D.works disk.old → D.works disk.new }
-    ensures ahead { IfSome result (λ ahead. Told (D.story disk.old)
-        (IsAhead D.leads D.regular (string_bytes ahead.path) ahead.bytes.items)) }
+    ensures ahead { IfSome result (λ ahead. Told (D.story disk.old) (IsAhead D.Disk (string_bytes ahead.path)
+        ahead.bytes.items)) }
 {
     let path = String::from_str(alloc, journal).ok()?;
     let bytes = look_at(disk, alloc, Which::Journal, journal, file, true).ok()?;

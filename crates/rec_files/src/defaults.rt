@@ -32,7 +32,7 @@ pub fn default_paths<R: Eprint + AllocGlobal, D: Disk>(
 ) -> Result<DefaultPaths, Fault>
     ensures same { D.story disk.new ≡ D.story disk.old }
     ensures works { D.works disk.old → D.works disk.new }
-    ensures paths { IfOk result (λ paths. Told (D.story disk.old) (AreDefaultPaths D.place D.leads D.link path.now
+    ensures paths { IfOk result (λ paths. Told (D.story disk.old) (AreDefaultPaths D.Disk path.now
         (string_bytes paths.file) (string_bytes paths.journal))) }
     ensures journal { IfOk result (λ paths. string_bytes paths.journal ≡ journal_of (string_bytes paths.file)) }
     ensures refusals { IsOkUnlessEither result Fault.OutOfMemory Fault.StoreFailed }
@@ -47,9 +47,8 @@ pub fn default_paths<R: Eprint + AllocGlobal, D: Disk>(
 /// Refuses a path that leads to what is no regular file: the links that the system has for a pipe lead to no path.
 fn require_regular<D: Disk>(disk: &mut D, path: &str) -> io::Result<()>
     ensures same { D.story disk.new ≡ D.story disk.old }
-    ensures regular { OnOk result (Told (D.story disk.old) (IsRegularAt D.leads D.regular path.now)) }
-    ensures succeeds { Succeeds IsMemory D.works D.story disk.old disk.new result (IsRegularAt D.leads D.regular
-        path.now) }
+    ensures regular { OnOk result (Told (D.story disk.old) (IsRegularAt D.Disk path.now)) }
+    ensures succeeds { Succeeds D.Disk IsMemory disk.old disk.new result (IsRegularAt D.Disk path.now) }
 {
     match if_there(disk.status_after_links(path))? {
         Some(there) if !D::is_regular(&there) => Err(not_regular()),
@@ -68,7 +67,7 @@ fn require_no_other<R: Eprint + AllocGlobal, D: Disk>(
     requires { journal.now ≡ journal_of file.now }
     ensures same { D.story disk.new ≡ D.story disk.old }
     ensures works { D.works disk.old → D.works disk.new }
-    ensures alone { OnOk result (Told (D.story disk.old) (HasNoOtherJournal D.place D.leads link.now file.now)) }
+    ensures alone { OnOk result (Told (D.story disk.old) (HasNoOtherJournal D.Disk link.now file.now)) }
     ensures refusals { IsOkUnlessEither result Fault.OutOfMemory Fault.StoreFailed }
 {
     if file == link {
@@ -110,7 +109,7 @@ fn is_free_or<D: Disk>(disk: &mut D, path: &str, other: &str) -> io::Result<bool
     ensures same { D.story disk.new ≡ D.story disk.old }
     ensures is { IfOk result (λ is. Told (D.story disk.old) (λ s. IsTrue is
         ↔ ((s.at (D.place path.now) ≡ None) ⊎ LeadToOne D.leads path.now other.now s))) }
-    ensures succeeds { Succeeds IsMemory D.works D.story disk.old disk.new result (λ s. Unit {0}) }
+    ensures succeeds { Succeeds D.Disk IsMemory disk.old disk.new result (λ s. Unit {0}) }
 {
     match if_there(disk.status(path))? {
         Some(_) => lead_to_one(disk, path, other),
@@ -123,7 +122,7 @@ fn lead_to_one<D: Disk>(disk: &mut D, first: &str, second: &str) -> io::Result<b
     ensures same { D.story disk.new ≡ D.story disk.old }
     ensures one { IfOk result (λ one. Told (D.story disk.old)
         (λ s. IsTrue one ↔ LeadToOne D.leads first.now second.now s)) }
-    ensures succeeds { Succeeds IsMemory D.works D.story disk.old disk.new result (λ s. Unit {0}) }
+    ensures succeeds { Succeeds D.Disk IsMemory disk.old disk.new result (λ s. Unit {0}) }
 {
     let Some(first) = if_there(disk.status_after_links(first))? else {
         return Ok(false);

@@ -9,11 +9,11 @@ ghost use Rattle.rec_text.specs.Sink.{one_more};
 ghost use Rattle.rec_disk.specs.Disk.{Told, IsMemory};
 ghost use Rattle.rec_disk.specs.Lasting.{shown};
 ghost use Rattle.rec_tools.specs.Home.{got, unread};
-ghost use Rattle.rec_files.specs.OnDisk.{or_empty, contents_on, places_by, IsReadOf};
+ghost use Rattle.rec_files.specs.OnDisk.{or_empty, IsReadOf, contents_of};
 ghost use Rattle.rec_files.specs.Paths.{path_of};
 ghost use Rattle.rec_files.specs.Succeeding.{HomeGoes, IsShort, IsThere, IsReadable, IsShut, NotesRead, kept};
 ghost use Rattle.rec_files.specs.Succeeding.{IsRegularAt, ReadsRegular, FailedForMemory, HadAll, GoesOn, IsLastOf};
-ghost use Rattle.rec_files.specs.Succeeding.{IfLocked, let_go, IsStanding, CanGoOn};
+ghost use Rattle.rec_files.specs.Succeeding.{IfLocked, let_go, IsStanding, CanGoOn, known};
 ghost use Rattle.rec_files.specs.proving.Succeeding.{Succeeds, IsOwnJournal};
 
 use crate::access::Access;
@@ -192,21 +192,19 @@ impl<'r, R: Input + AllocGlobal, D: Disk + Drop> DiskHome<'r, R, D> {
         ensures kept { self.new.failed ≡ self.old.failed }
         ensures paths { (self.new.file ≡ self.old.file) × (self.new.journal ≡ self.old.journal) }
         ensures same { D.story self.new.disk ≡ D.story self.old.disk }
-        ensures read { IfOk result (λ bytes. IsReadOf D.leads (option_map string_bytes self.old.file)
-            (string_bytes self.old.journal) (D.story self.old.disk) which bytes.items) }
+        ensures read { IfOk result (λ bytes. IsReadOf D.Disk self.old which bytes.items) }
         ensures there { which ≡ Which.Base → OnOk result (IfSome self.old.file (λ file. Told (D.story self.old.disk)
             (λ s. IsSome (s.at (D.leads (string_bytes file)))))) }
-        ensures succeeds { Succeeds FailedForMemory D.works D.story self.old.disk self.new.disk result (HadAll D.place
-            D.leads D.link D.regular (kept D.number D.tells self.old) (unread which)) }
+        ensures succeeds { Succeeds D.Disk FailedForMemory self.old.disk self.new.disk result
+            (HadAll D.Disk (kept D.Disk self.old) (unread which)) }
         ensures access { self.new.access ≡ self.old.access }
-        ensures regular { IfOk result (λ bytes. ReadsRegular D.leads D.regular (kept D.number D.tells self.old)
-            (D.story self.old.disk) (got which bytes.items)) }
-        ensures noted { self.old.access ≡ Access.Change → IfOk result (λ bytes. NotesRead D.leads D.regular
-            (kept D.number D.tells self.old) (kept D.number D.tells self.new) (D.story self.old.disk)
+        ensures regular { IfOk result (λ bytes. ReadsRegular D.Disk (kept D.Disk self.old) (D.story self.old.disk)
             (got which bytes.items)) }
-        ensures goes_on { IfOk result (λ bytes. GoesOn D.leads (kept D.number D.tells self.old)
-            (kept D.number D.tells self.new) (D.story self.old.disk) (got which bytes.items)) }
-        ensures last { IsLastOf D.leads (string_bytes self.old.journal) self.old.last self.new.last
+        ensures noted { self.old.access ≡ Access.Change → IfOk result (λ bytes. NotesRead D.Disk (kept D.Disk self.old)
+            (kept D.Disk self.new) (D.story self.old.disk) (got which bytes.items)) }
+        ensures goes_on { IfOk result (λ bytes. GoesOn D.Disk (kept D.Disk self.old) (kept D.Disk self.new)
+            (D.story self.old.disk) (got which bytes.items)) }
+        ensures last { IsLastOf D.Disk (string_bytes self.old.journal) self.old.last self.new.last
             (D.story self.old.disk) }
     {
         let journal = self.journal.as_str();
@@ -221,23 +219,21 @@ impl<'r, R: Input + AllocGlobal, D: Disk + Drop> DiskHome<'r, R, D> {
     fn bytes_of(&mut self, alloc: Global, which: Which) -> io::Result<Vec<u8>>
         ensures last { self.new.last ≡ self.old.last }
         ensures journal { which ≡ Which.Journal → IfOk result (λ bytes. Told (D.story self.old.disk)
-            (IsStanding D.leads (string_bytes self.old.journal) bytes.items)) }
+            (IsStanding D.Disk (string_bytes self.old.journal) bytes.items)) }
         ensures kept { self.new.failed ≡ self.old.failed }
         ensures paths { (self.new.file ≡ self.old.file) × (self.new.journal ≡ self.old.journal) }
         ensures same { D.story self.new.disk ≡ D.story self.old.disk }
-        ensures read { IfOk result (λ bytes. IsReadOf D.leads (option_map string_bytes self.old.file)
-            (string_bytes self.old.journal) (D.story self.old.disk) which bytes.items) }
+        ensures read { IfOk result (λ bytes. IsReadOf D.Disk self.old which bytes.items) }
         ensures there { which ≡ Which.Base → OnOk result (IfSome self.old.file (λ file. Told (D.story self.old.disk)
             (λ s. IsSome (s.at (D.leads (string_bytes file)))))) }
-        ensures succeeds { Succeeds IsMemory D.works D.story self.old.disk self.new.disk result (IsReadable D.leads
-            D.link D.regular self.old.access (option_map string_bytes self.old.file) (string_bytes self.old.journal)
-            (option_and_then (λ file. option_map (λ opened. D.tells opened.seen) file.old) self.old.both.file) which) }
+        ensures succeeds { Succeeds D.Disk IsMemory self.old.disk self.new.disk result
+            (IsReadable D.Disk self.old.access (option_map string_bytes self.old.file) (string_bytes self.old.journal)
+            (option_and_then (λ file. (known D.Disk file).look) self.old.both.file) which) }
         ensures access { self.new.access ≡ self.old.access }
-        ensures regular { IfOk result (λ bytes. ReadsRegular D.leads D.regular (kept D.number D.tells self.old)
-            (D.story self.old.disk) (got which bytes.items)) }
-        ensures noted { self.old.access ≡ Access.Change → IfOk result (λ bytes. NotesRead D.leads D.regular
-            (kept D.number D.tells self.old) (kept D.number D.tells self.new) (D.story self.old.disk)
+        ensures regular { IfOk result (λ bytes. ReadsRegular D.Disk (kept D.Disk self.old) (D.story self.old.disk)
             (got which bytes.items)) }
+        ensures noted { self.old.access ≡ Access.Change → IfOk result (λ bytes. NotesRead D.Disk (kept D.Disk self.old)
+            (kept D.Disk self.new) (D.story self.old.disk) (got which bytes.items)) }
     {
         if which == Which::Base && self.file.is_none() {
             return read_rest(which, Vec::new(alloc), self.rt.reader());
@@ -258,14 +254,11 @@ impl<'r, R: Input + AllocGlobal, D: Disk + Drop> DiskHome<'r, R, D> {
 }
 
 impl<'r, R: Input + AllocGlobal, D: Disk + Drop> Home for DiskHome<'r, R, D> {
-    ghost contents = { λ home. contents_on (places_by D.leads (option_map string_bytes home.file)
-        (string_bytes home.journal))
-        (D.story home.disk) };
+    ghost contents = { contents_of D.Disk };
 
     ghost failure_count = { λ home. home.failed };
 
-    ghost goes = { λ old call new. HomeGoes D.place D.leads D.link D.folder D.syncs D.regular D.number D.tells D.story D.works
-        old call new };
+    ghost goes = { HomeGoes D.Disk };
 
     ghost follows = { λ old new call h. h.0.follows };
 
@@ -367,11 +360,10 @@ fn let_go<D: Disk>(
 ) -> io::Result<()>
     ensures same { D.story disk.new ≡ D.story disk.old }
     ensures noted { which ≡ Which.Base → IfLocked last.old (OnOk result (IsSomeAnd (let_go last.new)
-        (λ bytes. Told (D.story disk.old) (IsStanding D.leads journal.now bytes)))) }
+        (λ bytes. Told (D.story disk.old) (IsStanding D.Disk journal.now bytes)))) }
     ensures still { which ≡ Which.Journal → last.new ≡ last.old }
-    ensures last { IsLastOf D.leads journal.now last.old last.new (D.story disk.old) }
-    ensures succeeds { Succeeds IsMemory D.works D.story disk.old disk.new result (CanGoOn D.leads D.regular journal.now
-        last.old which) }
+    ensures last { IsLastOf D.Disk journal.now last.old last.new (D.story disk.old) }
+    ensures succeeds { Succeeds D.Disk IsMemory disk.old disk.new result (CanGoOn D.Disk journal.now last.old which) }
 {
     match which {
         Which::Journal => Ok(()),
@@ -400,12 +392,10 @@ pub fn look_at<D: Disk>(
     ensures whole { IfOk result (λ bytes. Told (D.story disk.old)
         (λ s. bytes.items ≡ or_empty (shown s.bytes (s.at (D.leads path.now))))) }
     ensures there { which ≡ Which.Base → OnOk result (Told (D.story disk.old) (λ s. IsSome (s.at (D.leads path.now)))) }
-    ensures regular { only_regular ≡ true
-        → OnOk result (Told (D.story disk.old) (IsRegularAt D.leads D.regular path.now)) }
-    ensures succeeds { Succeeds IsMemory D.works D.story disk.old disk.new result (λ s. (only_regular ≡ true →
-        IsRegularAt D.leads D.regular path.now s) × IsThere which path.now (λ n. IsShort s n × (which ≡ Which.Journal
-        → IsOwnJournal (option_map (λ file. s.at (D.leads (string_bytes file))) other.now) n))
-        (s.at (D.leads path.now))) }
+    ensures regular { only_regular ≡ true → OnOk result (Told (D.story disk.old) (IsRegularAt D.Disk path.now)) }
+    ensures succeeds { Succeeds D.Disk IsMemory disk.old disk.new result (λ s. (only_regular ≡ true → IsRegularAt D.Disk
+        path.now s) × IsThere which path.now (λ n. IsShort s n × (which ≡ Which.Journal → IsOwnJournal (option_map (λ
+        file. s.at (D.leads (string_bytes file))) other.now) n)) (s.at (D.leads path.now))) }
 {
     match open(disk, path, only_regular) {
         Ok(file) => {
@@ -426,12 +416,11 @@ fn open<D: Disk>(disk: &mut D, path: &str, only_regular: bool) -> io::Result<D::
     ensures same { D.story disk.new ≡ D.story disk.old }
     ensures opened { IfOk result (λ file. Told (D.story disk.old)
         (λ s. s.at (D.leads path.now) ≡ Some (D.number file))) }
-    ensures regular { only_regular ≡ true
-        → OnOk result (Told (D.story disk.old) (IsRegularAt D.leads D.regular path.now)) }
+    ensures regular { only_regular ≡ true → OnOk result (Told (D.story disk.old) (IsRegularAt D.Disk path.now)) }
     ensures missing { IfErr result (λ error. error_kind error ≡ ErrorKind.NotFound
         → Told (D.story disk.old) (λ s. s.at (D.leads path.now) ≡ None)) }
-    ensures succeeds { Succeeds (λ error. IsMemory error ⊎ (error_kind error ≡ ErrorKind.NotFound)) D.works D.story
-        disk.old disk.new result (λ s. only_regular ≡ true → IsRegularAt D.leads D.regular path.now s) }
+    ensures succeeds { Succeeds D.Disk (λ error. IsMemory error ⊎ (error_kind error ≡ ErrorKind.NotFound)) disk.old
+        disk.new result (λ s. only_regular ≡ true → IsRegularAt D.Disk path.now s) }
 {
     if only_regular && !D::is_regular(&disk.status_after_links(path)?) {
         return Err(not_regular());
@@ -451,8 +440,8 @@ fn is_the_file<D: Disk>(
     ensures same { D.story disk.new ≡ D.story disk.old }
     ensures the_file { IfOk result (λ is. Told (D.story disk.old) (λ s. IsTrue is ↔ ((which ≡ Which.Journal)
         × IsSomeAnd other.now (λ path. s.at (D.leads (string_bytes path)) ≡ Some (D.number file.now))))) }
-    ensures succeeds { Succeeds IsMemory D.works D.story disk.old disk.new result (λ s. which ≡ Which.Journal → IfSome
-        other.now (λ path. IsSome (s.at (D.leads (string_bytes path))))) }
+    ensures succeeds { Succeeds D.Disk IsMemory disk.old disk.new result (λ s. which ≡ Which.Journal
+        → IfSome other.now (λ path. IsSome (s.at (D.leads (string_bytes path))))) }
 {
     match (which, other) {
         (Which::Journal, Some(other)) => {

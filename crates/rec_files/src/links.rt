@@ -20,8 +20,7 @@ pub fn after_links<D: Disk>(disk: &mut D, alloc: Global, path: &str) -> io::Resu
         (λ s. end_of D.link LINKS path.now ≡ Some (string_bytes last))) }
     ensures led { IfOk result (λ last. Told (D.story disk.old) (λ s. (D.leads path.now ≡ D.place (string_bytes last))
         × (D.leads (string_bytes last) ≡ D.place (string_bytes last)))) }
-    ensures succeeds { Succeeds IsMemory D.works D.story disk.old disk.new result (λ s. IsSome (end_of D.link LINKS
-        path.now)) }
+    ensures succeeds { Succeeds D.Disk IsMemory disk.old disk.new result (λ s. IsSome (end_of D.link LINKS path.now)) }
 {
     let mut path = String::from_str(alloc, path)?;
     for _ in 0..LINKS {
@@ -37,7 +36,7 @@ pub fn after_links<D: Disk>(disk: &mut D, alloc: Global, path: &str) -> io::Resu
 fn next_path<D: Disk>(disk: &mut D, alloc: Global, path: &str) -> io::Result<Option<String>>
     ensures same { D.story disk.new ≡ D.story disk.old }
     ensures next { IfOk result (λ next. Told (D.story disk.old) (λ s. D.link path.now ≡ option_map string_bytes next)) }
-    ensures succeeds { Succeeds IsMemory D.works D.story disk.old disk.new result (λ s. Unit {0}) }
+    ensures succeeds { Succeeds D.Disk IsMemory disk.old disk.new result (λ s. Unit {0}) }
 {
     match if_there(disk.status(path))? {
         Some(there) if D::is_link(&there) => Ok(Some(disk.follow(alloc, path)?)),

@@ -30,7 +30,7 @@ impl<D: Disk> OpenFile<D> {
         ensures file { IfOk result (λ opened. opened.file ≡ file) }
         ensures seen { IfOk result (λ opened. Told (D.story disk.old)
             (λ s. IsSomeAnd (D.tells opened.seen) (IsLookFor s (D.number opened.file)))) }
-        ensures succeeds { Succeeds IsMemory D.works D.story disk.old disk.new result (λ s. Unit {0}) }
+        ensures succeeds { Succeeds D.Disk IsMemory disk.old disk.new result (λ s. Unit {0}) }
     {
         let seen = disk.status_of(&file)?;
         Ok(OpenFile { file, seen })
@@ -44,8 +44,7 @@ impl<D: Disk> OpenFile<D> {
             (λ s. bytes.items ≡ s.bytes (D.number self.now.file))) }
         ensures still { IfOk result (λ bytes. Told (D.story disk.old) (λ s. SaysOf (λ look. D.regular look.number ≡ true
             → IsLookStill s (D.number self.now.file) look) (D.tells self.now.seen))) }
-        ensures succeeds { Succeeds IsMemory D.works D.story disk.old disk.new result (CanRead (D.number self.now.file)
-            (D.tells self.now.seen)) }
+        ensures succeeds { Succeeds D.Disk IsMemory disk.old disk.new result (CanRead D.Disk self.now) }
     {
         let bytes = read_whole(disk, alloc, which, &self.file)?;
         if self.is_disturbed(disk)? {
@@ -58,11 +57,11 @@ impl<D: Disk> OpenFile<D> {
     fn is_disturbed(&self, disk: &mut D) -> io::Result<bool>
         ensures same { D.story disk.new ≡ D.story disk.old }
         ensures still { IfOk result (λ disturbed. Told (D.story disk.old)
-            (λ s. CanRead (D.number self.now.file) (D.tells self.now.seen) s → disturbed ≡ false)) }
+            (λ s. CanRead D.Disk self.now s → disturbed ≡ false)) }
         ensures disturbed { IfOk result (λ disturbed. Told (D.story disk.old) (λ s. SaysOf (λ look.
             D.regular look.number ≡ true → disturbed ≡ false → IsLookStill s (D.number self.now.file) look)
             (D.tells self.now.seen))) }
-        ensures succeeds { Succeeds IsMemory D.works D.story disk.old disk.new result (λ s. Unit {0}) }
+        ensures succeeds { Succeeds D.Disk IsMemory disk.old disk.new result (λ s. Unit {0}) }
     {
         Ok(D::is_regular(&self.seen) && !D::is_unchanged(&self.seen, &disk.status_of(&self.file)?))
     }
@@ -76,9 +75,8 @@ pub fn lock<D: Disk>(disk: &mut D, path: &str, other: Option<&D::Status>) -> io:
     ensures seen { IfOk result (λ opened. Told (D.story disk.old)
         (λ s. IsSomeAnd (D.tells opened.seen) (IsLookFor s (D.number opened.file)))) }
     ensures free { IfOk result (λ opened. Told (D.story disk.old) (λ s. s.held (D.number opened.file) ≡ false)) }
-    ensures succeeds { Succeeds IsMemory D.works D.story disk.old disk.new result (λ s. (D.leads path.now ≡ D.place
-        path.now) × IsSomeAnd (s.at (D.leads path.now)) (IsUnlocked (option_map (λ other. D.tells other.now)
-        other.entry) s)) }
+    ensures succeeds { Succeeds D.Disk IsMemory disk.old disk.new result (λ s. (D.leads path.now ≡ D.place path.now)
+        × IsSomeAnd (s.at (D.leads path.now)) (IsUnlocked (option_map (λ other. D.tells other.now) other.entry) s)) }
 {
     for _ in 0..TRIES {
         if let Some(file) = try_to_lock(disk, path, other)? {
@@ -103,8 +101,8 @@ fn try_to_lock<D: Disk>(
         (λ s. s.held (D.number opened.file) ≡ false))) }
     ensures first { IfOk result (λ tried. Told (D.story disk.old)
         (λ s. (D.leads path.now ≡ D.place path.now) → IsSome tried)) }
-    ensures succeeds { Succeeds IsMemory D.works D.story disk.old disk.new result (λ s. IsSomeAnd (s.at (D.leads
-        path.now)) (IsUnlocked (option_map (λ other. D.tells other.now) other.entry) s)) }
+    ensures succeeds { Succeeds D.Disk IsMemory disk.old disk.new result (λ s. IsSomeAnd (s.at (D.leads path.now))
+        (IsUnlocked (option_map (λ other. D.tells other.now) other.entry) s)) }
 {
     let file = open_to_lock(disk, path)?;
     if is_that(disk, &file, other)? {
@@ -125,8 +123,7 @@ fn open_to_lock<D: Disk>(disk: &mut D, path: &str) -> io::Result<D::File>
     ensures same { D.story disk.new ≡ D.story disk.old }
     ensures opened { IfOk result (λ file. Told (D.story disk.old)
         (λ s. s.at (D.leads path.now) ≡ Some (D.number file))) }
-    ensures succeeds { Succeeds IsMemory D.works D.story disk.old disk.new result (λ s. IsSome (s.at (D.leads
-        path.now))) }
+    ensures succeeds { Succeeds D.Disk IsMemory disk.old disk.new result (λ s. IsSome (s.at (D.leads path.now))) }
 {
     match disk.open_to_write(path) {
         Ok(file) => Ok(file),
@@ -138,7 +135,7 @@ fn is_that<D: Disk>(disk: &mut D, file: &D::File, other: Option<&D::Status>) -> 
     ensures same { D.story disk.new ≡ D.story disk.old }
     ensures other { IfOk result (λ that. Told (D.story disk.old)
         (λ s. SawAnother (D.number file.now) (option_map (λ other. D.tells other.now) other.entry) → that ≡ false)) }
-    ensures succeeds { Succeeds IsMemory D.works D.story disk.old disk.new result (λ s. Unit {0}) }
+    ensures succeeds { Succeeds D.Disk IsMemory disk.old disk.new result (λ s. Unit {0}) }
 {
     match other {
         Some(other) => Ok(D::are_one(other, &disk.status_of(file)?)),
@@ -151,7 +148,7 @@ pub fn leads_to<D: Disk>(disk: &mut D, name: &str, file: &D::File) -> io::Result
     ensures same { D.story disk.new ≡ D.story disk.old }
     ensures leads { IfOk result (λ leads. Told (D.story disk.old)
         (λ s. IsTrue leads ↔ (s.at (D.place name.now) ≡ Some (D.number file.now)))) }
-    ensures succeeds { Succeeds IsMemory D.works D.story disk.old disk.new result (λ s. Unit {0}) }
+    ensures succeeds { Succeeds D.Disk IsMemory disk.old disk.new result (λ s. Unit {0}) }
 {
     let own = disk.status_of(file)?;
     match if_there(disk.status(name))? {

@@ -23,7 +23,7 @@ pub fn read_whole<D: Disk>(
     ensures same { D.story disk.new ≡ D.story disk.old }
     ensures limit { IfOk result (λ bytes. length bytes.items ≤ LIMIT) }
     ensures whole { IfOk result (λ bytes. Told (D.story disk.old) (λ s. bytes.items ≡ s.bytes (D.number file.now))) }
-    ensures succeeds { Succeeds IsMemory D.works D.story disk.old disk.new result (λ s. IsShort s (D.number file.now)) }
+    ensures succeeds { Succeeds D.Disk IsMemory disk.old disk.new result (λ s. IsShort s (D.number file.now)) }
 {
     if D::length(&disk.status_of(file)?) > LIMIT {
         return Err(too_long(which));

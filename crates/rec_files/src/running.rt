@@ -1,5 +1,5 @@
 //! Requests on a file and its journal on a disk.
-ghost use Rattle.std.specs.Prelude.{◌≡◌, ◌⊎◌, List, IfErr, IfSome, IsErrOf, option_map, string_bytes};
+ghost use Rattle.std.specs.Prelude.{◌≡◌, ◌⊎◌, List, IfErr, IfSome, IsErrOf};
 ghost use Rattle.rec_tools.specs.Home.{Call};
 ghost use Rattle.rec_tools.specs.Steps.{IsRefusal};
 ghost use Rattle.rec_tools.specs.Printouts.{Printed, WentOut, IsSilence};
@@ -8,8 +8,8 @@ ghost use Rattle.rec_tools.specs.Asked.{changing};
 ghost use Rattle.rec_tools.specs.Attempts.{Answer, Attempts, AttemptsAll};
 ghost use Rattle.rec_tools.specs.Through.{move_through, moves_through, EndsThrough, PreviewsThrough};
 ghost use Rattle.rec_files.specs.Succeeding.{HomeGoes};
-ghost use Rattle.rec_files.specs.OnDisk.{places_by, SecureRequest, LastingRequest, TouchesOwn, RecoversRequest};
-ghost use Rattle.rec_files.specs.OnDisk.{AreRequestsAt};
+ghost use Rattle.rec_files.specs.OnDisk.{SecureRequest, LastingRequest, TouchesOwn, RecoversRequest};
+ghost use Rattle.rec_files.specs.OnDisk.{AreRequestsAt, places_of};
 
 use crate::files::DiskHome;
 use rec_disk::Disk;
@@ -27,31 +27,27 @@ pub fn run<'r, R: Input + AllocGlobal, D: Disk + Drop, S: Sink>(
 ) -> Result<Response, Refusal>
     // Its calls, what went out, and that both and the answer are what the request comes to.
     ensures attempts { (calls : List Call) × (p : Printed) × WentOut S.contents S.failure_count out.old out.new p
-        × Attempts (HomeGoes D.place D.leads D.link D.folder D.syncs D.regular D.number D.tells D.story D.works)
-        home.old home.new (asked_of request.now) result calls p }
+        × Attempts (HomeGoes D.Disk) home.old home.new (asked_of request.now) result calls p }
     ensures refusals { IfErr result IsRefusal }
     ensures silent { IsChange request.now → out.new ≡ out.old }
 
     // Stop the program, or cut the power, at any moment: what is on the disk stands for the state before the request or for
     // the next.
-    ensures any_moment { IfSome (places_by D.leads (option_map string_bytes home.old.file)
-        (string_bytes home.old.journal))
-        (λ p. SecureRequest D.folder D.syncs p (asked_of request.now) (D.story home.old.disk) (D.story home.new.disk)) }
+    ensures any_moment { IfSome (places_of D.Disk home.old) (λ p. SecureRequest D.Disk p (asked_of request.now)
+        (D.story home.old.disk) (D.story home.new.disk)) }
 
     // After any answer but that a store failed, what is on the disk is there for good.
-    ensures lasting { IfSome (places_by D.leads (option_map string_bytes home.old.file) (string_bytes home.old.journal))
-        (λ p. IsErrOf result Fault.StoreFailed ⊎ LastingRequest D.folder D.syncs p (D.story home.old.disk)
-        (D.story home.new.disk)) }
+    ensures lasting { IfSome (places_of D.Disk home.old) (λ p. IsErrOf result Fault.StoreFailed
+        ⊎ LastingRequest D.Disk p (D.story home.old.disk) (D.story home.new.disk)) }
 
     // Nothing but the file, its journal and what stands under their working names is touched, and nobody's file there.
-    ensures touches { IfSome (places_by D.leads (option_map string_bytes home.old.file) (string_bytes home.old.journal))
-        (λ p. TouchesOwn D.place p (D.story home.old.disk) (D.story home.new.disk)) }
+    ensures touches { IfSome (places_of D.Disk home.old) (λ p. TouchesOwn D.Disk p (D.story home.old.disk)
+        (D.story home.new.disk)) }
 
     // Stop the program, or cut the power, at any moment: what lies under the working names can be told to be left over, so
     // that the next request isn't refused for it.
-    ensures recovers { IfSome (places_by D.leads (option_map string_bytes home.old.file)
-        (string_bytes home.old.journal))
-        (λ p. RecoversRequest D.place D.folder D.syncs p (D.story home.old.disk) (D.story home.new.disk)) }
+    ensures recovers { IfSome (places_of D.Disk home.old) (λ p. RecoversRequest D.Disk p (D.story home.old.disk)
+        (D.story home.new.disk)) }
 {
     stops_are_steps();
     rec_tools::run(alloc, home, out, request)
@@ -68,12 +64,10 @@ pub fn run_through<'r, R: Input + AllocGlobal, D: Disk + Drop>(
     // One answer for each move, by calls of its own, while nothing is printed; and of each all that is said of a request on
     // a disk.
     ensures attempts { (answers : List Answer) × EndsThrough direction number answers result
-        × ((calls : List Call) × (p : Printed) × IsSilence p
-        × AttemptsAll (HomeGoes D.place D.leads D.link D.folder D.syncs D.regular D.number D.tells D.story D.works)
-        home.old home.new (moves_through direction number answers) answers calls p)
-        × IfSome (places_by D.leads (option_map string_bytes home.old.file) (string_bytes home.old.journal))
-        (λ p. AreRequestsAt D.place D.folder D.syncs p (changing (change_of (move_through direction number))) answers
-        (D.story home.old.disk) (D.story home.new.disk)) }
+        × ((calls : List Call) × (p : Printed) × IsSilence p × AttemptsAll (HomeGoes D.Disk) home.old home.new
+        (moves_through direction number answers) answers calls p)
+        × IfSome (places_of D.Disk home.old) (λ p. AreRequestsAt D.Disk p (changing (change_of
+        (move_through direction number))) answers (D.story home.old.disk) (D.story home.new.disk)) }
 {
     stops_are_steps();
     rec_tools::run_through(alloc, home, direction, number)
@@ -89,14 +83,12 @@ pub fn preview_through<'r, R: Input + AllocGlobal, D: Disk + Drop, S: Sink>(
     style: &DiffStyle,
 ) -> Through
     // One answer for each move, and what went out, by calls that read both contents.
-    ensures attempts { (answers : List Answer) × EndsThrough direction number answers result
-        × (p : Printed) × WentOut S.contents S.failure_count out.old out.new p
-        × PreviewsThrough (HomeGoes D.place D.leads D.link D.folder D.syncs D.regular D.number D.tells D.story D.works)
-        home.old home.new style.now direction number answers p }
+    ensures attempts { (answers : List Answer) × EndsThrough direction number answers result × (p : Printed)
+        × WentOut S.contents S.failure_count out.old out.new p × PreviewsThrough (HomeGoes D.Disk) home.old home.new
+        style.now direction number answers p }
 
     // Nothing is changed on the disk.
-    ensures still { IfSome (places_by D.leads (option_map string_bytes home.old.file) (string_bytes home.old.journal))
-        (λ p. D.story home.new.disk ≡ D.story home.old.disk) }
+    ensures still { IfSome (places_of D.Disk home.old) (λ p. D.story home.new.disk ≡ D.story home.old.disk) }
 {
     rec_tools::preview_through(alloc, home, out, direction, number, style)
 }

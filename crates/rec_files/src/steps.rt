@@ -5,7 +5,7 @@ ghost use Rattle.std.specs.Result.{is_ok};
 ghost use Rattle.rec_files.specs.Succeeding.{FailedForMemory};
 ghost use Rattle.rec_files.specs.proving.Succeeding.{Succeeds};
 ghost use Rattle.rec_files.specs.proving.Steps.{Acts, Needs, Fits, Takes, Plays, CanPlay, StepFits, StepNeeds, numbers};
-ghost use Rattle.rec_files.specs.proving.Steps.{ways_of, side_by, task_of, list_for, ready, removing};
+ghost use Rattle.rec_files.specs.proving.Steps.{side_by, list_for, ready, removing, task_by};
 
 use crate::failure::{Cause, Failure, too_long, unread};
 use crate::reading::LIMIT;
@@ -182,15 +182,11 @@ pub fn play<D: Disk>(
     made: &mut Made<D>,
     steps: &[Step],
 ) -> Result<(), Failure>
-    ensures plays { Plays (ways_of D.place D.leads D.folder D.syncs D.regular)
-        (task_of D.number D.tells pair.now.file.now pair.now.journal.now pair.now.file_bytes.now
-        pair.now.journal_bytes.now) steps.now (is_ok result) (numbers D.number made.old)
-        (numbers D.number made.new) (D.story disk.old) (D.story disk.new) }
-    ensures fits { OnOk result (AllByRecursion (StepFits (task_of D.number D.tells pair.now.file.now
-        pair.now.journal.now pair.now.file_bytes.now pair.now.journal_bytes.now)) steps.now) }
-    ensures succeeds { Succeeds FailedForMemory D.works D.story disk.old disk.new result (CanPlay (ways_of D.place
-        D.leads D.folder D.syncs D.regular) (task_of D.number D.tells pair.now.file.now pair.now.journal.now
-        pair.now.file_bytes.now pair.now.journal_bytes.now) steps.now (numbers D.number made.old)) }
+    ensures plays { Plays D.Disk (task_by D.Disk pair.now) steps.now (is_ok result) (numbers D.Disk made.old)
+        (numbers D.Disk made.new) (D.story disk.old) (D.story disk.new) }
+    ensures fits { OnOk result (AllByRecursion (StepFits (task_by D.Disk pair.now)) steps.now) }
+    ensures succeeds { Succeeds D.Disk FailedForMemory disk.old disk.new result (CanPlay D.Disk
+        (task_by D.Disk pair.now) steps.now (numbers D.Disk made.old)) }
 {
     for step in steps {
         take(disk, alloc, pair, made, *step)?;
@@ -205,15 +201,11 @@ fn take<D: Disk>(
     made: &mut Made<D>,
     step: Step,
 ) -> Result<(), Failure>
-    ensures takes { Takes (ways_of D.place D.leads D.folder D.syncs D.regular)
-        (task_of D.number D.tells pair.now.file.now pair.now.journal.now pair.now.file_bytes.now
-        pair.now.journal_bytes.now) step (is_ok result) (numbers D.number made.old)
-        (numbers D.number made.new) (D.story disk.old) (D.story disk.new) }
-    ensures fits { OnOk result (StepFits (task_of D.number D.tells pair.now.file.now pair.now.journal.now
-        pair.now.file_bytes.now pair.now.journal_bytes.now) step) }
-    ensures succeeds { Succeeds FailedForMemory D.works D.story disk.old disk.new result (StepNeeds (ways_of D.place
-        D.leads D.folder D.syncs D.regular) (task_of D.number D.tells pair.now.file.now pair.now.journal.now
-        pair.now.file_bytes.now pair.now.journal_bytes.now) step (numbers D.number made.old)) }
+    ensures takes { Takes D.Disk (task_by D.Disk pair.now) step (is_ok result) (numbers D.Disk made.old)
+        (numbers D.Disk made.new) (D.story disk.old) (D.story disk.new) }
+    ensures fits { OnOk result (StepFits (task_by D.Disk pair.now) step) }
+    ensures succeeds { Succeeds D.Disk FailedForMemory disk.old disk.new result (StepNeeds D.Disk
+        (task_by D.Disk pair.now) step (numbers D.Disk made.old)) }
 {
     match step.0 {
         Which::Base => perform(
@@ -247,13 +239,11 @@ fn perform<D: Disk>(
     bytes: &[u8],
     act: Act,
 ) -> Result<(), Failure>
-    ensures acts { Acts (ways_of D.place D.leads D.folder D.syncs D.regular)
-        (side_by D.number D.tells target.now other.now bytes.now) act (is_ok result) (option_map D.number new.old)
-        (option_map D.number new.new) (D.story disk.old) (D.story disk.new) }
+    ensures acts { Acts D.Disk (side_by D.Disk target.now other.now bytes.now) act (is_ok result)
+        (option_map D.number new.old) (option_map D.number new.new) (D.story disk.old) (D.story disk.new) }
     ensures fits { OnOk result (Fits act bytes.now) }
-    ensures succeeds { Succeeds FailedForMemory D.works D.story disk.old disk.new result (Needs (ways_of D.place D.leads
-        D.folder D.syncs D.regular) (side_by D.number D.tells target.now other.now bytes.now) act (option_map D.number
-        new.old)) }
+    ensures succeeds { Succeeds D.Disk FailedForMemory disk.old disk.new result (Needs D.Disk
+        (side_by D.Disk target.now other.now bytes.now) act (option_map D.number new.old)) }
 {
     match act {
         Make => target.make_new(disk, new),

@@ -66,8 +66,8 @@ fn read_at<D: Disk>(disk: &mut D, alloc: Global, path: &str) -> io::Result<Vec<u
     ensures bytes { IfOk result (λ bytes. Told (D.story disk.old)
         (λ s. shown s.bytes (s.at (D.leads path.now)) ≡ Some bytes.items)) }
     ensures limit { IfOk result (λ bytes. length bytes.items ≤ LIMIT) }
-    ensures succeeds { Succeeds IsMemory D.works D.story disk.old disk.new result (λ s. IsSomeAnd (s.at (D.leads
-        path.now)) (IsShort s)) }
+    ensures succeeds { Succeeds D.Disk IsMemory disk.old disk.new result (λ s. IsSomeAnd (s.at (D.leads path.now))
+        (IsShort s)) }
 {
     let file = disk.open(path)?;
     let opened = OpenFile::new(disk, file)?;

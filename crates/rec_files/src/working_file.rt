@@ -14,8 +14,7 @@ use std::io::{Error, ErrorKind};
 /// Makes a file under a working name, at which nothing may stand.
 pub fn create<D: Disk>(disk: &mut D, name: &str) -> Result<D::File, Cause>
     ensures goes { Goes (D.story disk.old) (D.story disk.new) result (IsMake D.number (D.place name.now) result) }
-    ensures succeeds { Succeeds IsForMemory D.works D.story disk.old disk.new result (λ s. s.at (D.place name.now) ≡
-        None) }
+    ensures succeeds { Succeeds D.Disk IsForMemory disk.old disk.new result (λ s. s.at (D.place name.now) ≡ None) }
 {
     match disk.make(name) {
         Ok(file) => Ok(file),
@@ -40,7 +39,7 @@ pub fn lock_own<D: Disk>(disk: &mut D, name: &str, file: &D::File) -> io::Result
     ensures same { D.story disk.new ≡ D.story disk.old }
     ensures own { IfOk result (λ own. Told (D.story disk.old)
         (λ s. IsTrue own ↔ IsFreeAt (D.place name.now) (D.number file.now) s)) }
-    ensures succeeds { Succeeds IsMemory D.works D.story disk.old disk.new result (λ s. Unit {0}) }
+    ensures succeeds { Succeeds D.Disk IsMemory disk.old disk.new result (λ s. Unit {0}) }
 {
     Ok(disk.lock(file)? && leads_to(disk, name, file)?)
 }

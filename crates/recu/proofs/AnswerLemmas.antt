@@ -5,6 +5,7 @@ use Rattle.std.specs.Io.Buffered.{writer_buffer, writer_inner}
 use Rattle.std.specs.Io.KnownBytes.{append_known}
 use Rattle.rec_text.specs.declared.fault.Fault.{Fault}
 use Rattle.rec_text.specs.declared.fault.Fault.TheVariants.{StoreFailed}
+use Rattle.rec_disk.specs.declared.disk.Disk.{Ghosts as Disk}
 use Rattle.rec_disk.specs.Disk.{Story}
 use Rattle.rec_tools.specs.declared.request.Reply.{Reply}
 use Rattle.rec_tools.specs.Asked.{Asked}
@@ -25,14 +26,14 @@ new_output contents output writer inner empty sound =
     rw (inner, empty, sound) (ap new_out (sym (append_known-nil (contents writer))))
 
 -- all that is said of a request on a disk, where its places are known
-pub request_on : (place folder : List ℕ → List ℕ) (syncs : List ℕ → Bool) (asked : Asked) (answer : Answer) (old new : Option Story) (x : Option Places)
-    → IfSome x (λ p. SecureRequest folder syncs p asked old new)
-    → IfSome x (λ p. IsErrOf answer StoreFailed ⊎ LastingRequest folder syncs p old new)
-    → IfSome x (λ p. TouchesOwn place p old new)
-    → IfSome x (λ p. RecoversRequest place folder syncs p old new)
-    → IfSome x (λ p. IsRequestAt place folder syncs p asked answer old new)
-request_on place folder syncs asked answer old new None any_moment lasting touches recovers = tt
-request_on place folder syncs asked answer old new (Some p) any_moment lasting touches recovers = record {
+pub request_on : {D F S : Type 0} (disk : Disk D F S) (asked : Asked) (answer : Answer) (old new : Option Story) (x : Option Places)
+    → IfSome x (λ p. SecureRequest disk p asked old new)
+    → IfSome x (λ p. IsErrOf answer StoreFailed ⊎ LastingRequest disk p old new)
+    → IfSome x (λ p. TouchesOwn disk p old new)
+    → IfSome x (λ p. RecoversRequest disk p old new)
+    → IfSome x (λ p. IsRequestAt disk p asked answer old new)
+request_on disk asked answer old new None any_moment lasting touches recovers = tt
+request_on disk asked answer old new (Some p) any_moment lasting touches recovers = record {
   any_moment = any_moment;
   lasting = lasting;
   touches = touches;

@@ -11,6 +11,7 @@ use Rattle.rec_text.specs.Bytes.{is_nil}
 use Rattle.rec_text.specs.declared.fault.Fault.{Fault}
 use Rattle.rec_text.specs.declared.fault.Fault.TheVariants.{OutOfMemory, StoreFailed}
 use Rattle.rec_text.specs.Sink.{HasRisen}
+use Rattle.rec_disk.specs.declared.disk.Disk.{Ghosts as Disk}
 use Rattle.rec_disk.specs.Disk.{Story, Told}
 use Rattle.rec_disk.specs.Lasting.{shown}
 use Rattle.rec_disk.specs.Paths.{journal_of}
@@ -32,7 +33,7 @@ use Rattle.rec_tools.specs.Through.{move_through, moves_through, EndsThrough, Pr
 use Rattle.rec_files.specs.declared.access.Access.TheVariants.{Look}
 use Rattle.rec_files.specs.declared.files.DiskHome.{DiskHome}
 use Rattle.rec_files.specs.declared.output.StandardOutput.{StandardOutput}
-use Rattle.rec_files.specs.OnDisk.{Places, places_by, IsRequestAt, AreRequestsAt}
+use Rattle.rec_files.specs.OnDisk.{places_of, IsRequestAt, AreRequestsAt}
 use Rattle.rec_files.specs.Paths.{AreDefaultPaths}
 use Rattle.rec_files.specs.Succeeding.{IsShut}
 use Rattle.rec_command.specs.declared.args.Order.{Order}
@@ -54,29 +55,6 @@ use Rattle.recu.specs.declared.job.Work.TheVariants.{Once as Makes, Through as M
 
 -- ---- the job and the home
 
--- the text at a path, where the disk tells what stands there, or any of standard input for `-`
-abbrev pub IsTextAt : (List ℕ → List ℕ) → Option Story → List ℕ → List ℕ → Type 0
-IsTextAt leads story path text = path ≢ codes "-" → Told story (λ s. shown s.bytes (s.at (leads path)) ≡ Some text)
-
--- the same, if a path is given
-abbrev pub IsTextAtIf : (List ℕ → List ℕ) → Option Story → Option (List ℕ) → Option (List ℕ) → Type 0
-IsTextAtIf leads story (Some path) (Some text) = IsTextAt leads story path text
-IsTextAtIf leads story None None = Unit {0}
-IsTextAtIf leads story path text = ⊥
-
--- the change that is ordered, with its texts; or one of these can't be read, or there is no memory for it
-abbrev pub IsWorkOf : (List ℕ → List ℕ) → Option Story → OrderedChange → Result Work Fault → Type 0
-IsWorkOf leads story (Whole change) found = found ≡ Ok (Makes change)
-IsWorkOf leads story (ThroughOrder direction number) found = found ≡ Ok (Moves direction number)
-IsWorkOf leads story (BatchAt path force) (Ok work) = (text : List ℕ)
-    × IsTextAt leads story (string_bytes path) text × (work ≡ Makes (Batch text force))
-IsWorkOf leads story (AdoptAt old) (Ok work) = (text : Option (List ℕ))
-    × IsTextAtIf leads story (option_map string_bytes old) text × (work ≡ Makes (Adopt text))
-IsWorkOf leads story (WriteAt path over force) (Ok work) = (text : List ℕ) × (before : Option (List ℕ))
-    × IsTextAt leads story (string_bytes path) text
-    × IsTextAtIf leads story (option_map string_bytes over) before × (work ≡ Makes (Write text before force))
-IsWorkOf leads story _ (Err fault) = (fault ≡ OutOfMemory) ⊎ (fault ≡ StoreFailed)
-
 -- a change gives the file an empty text, and not by force
 abbrev pub IsEmptying : Change → Type 0
 IsEmptying (Write text over force) = (text ≡ []) × (force ≡ false)
@@ -87,10 +65,6 @@ abbrev pub Empties : Job → Type 0
 Empties (Once (Changes change)) = IsEmptying change
 Empties (Once (Previews change style)) = IsEmptying change
 Empties _ = ⊥
-
--- it does so only with a file that is empty, where the disk tells what stands there
-abbrev pub EmptiesEmpty : (List ℕ → List ℕ) → Option Story → Job → Option (List ℕ) → Type 0
-EmptiesEmpty leads story job file = Empties job → IsTextAtIf leads story file (Some [])
 
 -- it does so, and is refused; or the file can't be read, or there is no memory for it
 abbrev pub IsRefusedAsEmpty : Job → Fault → Type 0
@@ -105,41 +79,63 @@ abbrev pub job_tried : DiffStyle → Work → Job
 job_tried style (Makes change) = Once (Previews change style)
 job_tried style (Moves direction number) = DryThrough direction number style
 
--- what an order has done, or why it can't be told
-abbrev pub IsJobOf : (List ℕ → List ℕ) → Option Story → Order → Result Job Fault → Type 0
-IsJobOf leads story (LookOrder look) found = found ≡ Ok (Once (Looks look))
-IsJobOf leads story (ChangeOrder order) (Ok job) =
-    (work : Work) × IsWorkOf leads story order (Ok work) × (job ≡ job_done work)
-IsJobOf leads story (PreviewOrder order style) (Ok job) =
-    (work : Work) × IsWorkOf leads story order (Ok work) × (job ≡ job_tried style work)
-IsJobOf leads story (ChangeOrder order) (Err fault) = IsWorkOf leads story order (Err fault)
-IsJobOf leads story (PreviewOrder order style) (Err fault) = IsWorkOf leads story order (Err fault)
+module _ {D F S : Type 0} (disk : Disk D F S) (story : Option Story) where
+  -- the text at a path, where the disk tells what stands there, or any of standard input for `-`
+  abbrev pub IsTextAt : List ℕ → List ℕ → Type 0
+  IsTextAt path text = path ≢ codes "-" → Told story (λ s. shown s.bytes (s.at (disk.leads path)) ≡ Some text)
 
--- The paths of the file and the journal of a home, by those that are given: these; but where the default journal of a
--- file is meant, that of the file to which its path leads, and its journal, where the disk tells what stands there; or
--- these can't be told, or another journal is in the way, or there is no memory for them. The empty path names no
--- journal.
-abbrev pub ArePathsOf : (List ℕ → List ℕ) → (List ℕ → List ℕ) → (List ℕ → Option (List ℕ)) → Option Story
-    → Option (List ℕ) → JournalPath → Result (Option (List ℕ) × Option (List ℕ)) Fault → Type 0
-ArePathsOf place leads link story (Some path) Default (Ok at) = (file : List ℕ)
-    × (at ≡ (Some file, Some (journal_of file)))
-    × Told story (AreDefaultPaths place leads link path file (journal_of file))
-ArePathsOf place leads link story (Some path) Default (Err fault) = (fault ≡ OutOfMemory) ⊎ (fault ≡ StoreFailed)
-ArePathsOf place leads link story file (Given path) found =
-    found ≡ (if is_nil (string_bytes path) then Err StoreFailed else Ok (file, Some (string_bytes path)))
-ArePathsOf place leads link story file journal found = found ≡ Ok (file, None)
+  -- the same, if a path is given
+  abbrev pub IsTextAtIf : Option (List ℕ) → Option (List ℕ) → Type 0
+  IsTextAtIf (Some path) (Some text) = IsTextAt path text
+  IsTextAtIf None None = Unit {0}
+  IsTextAtIf path text = ⊥
 
--- what a line asks for, with the paths of the file and the journal of the home; or there is none, or no such paths, or
--- it is an empty text for a file
-abbrev pub IsFoundFor : (List ℕ → List ℕ) → (List ℕ → List ℕ) → (List ℕ → Option (List ℕ)) → Option Story
-    → CommandLine → Result (Job × Option (List ℕ) × Option (List ℕ)) Fault → Type 0
-IsFoundFor place leads link story line (Ok found) = IsJobOf leads story line.order (Ok found.0)
-    × ArePathsOf place leads link story (option_map string_bytes line.file) line.journal (Ok (found.1, found.2))
-    × EmptiesEmpty leads story found.0 found.1
-IsFoundFor place leads link story line (Err fault) = IsJobOf leads story line.order (Err fault)
-    ⊎ ((job : Job) × IsJobOf leads story line.order (Ok job)
-    × (ArePathsOf place leads link story (option_map string_bytes line.file) line.journal (Err fault)
-    ⊎ IsRefusedAsEmpty job fault))
+  -- the change that is ordered, with its texts; or one of these can't be read, or there is no memory for it
+  abbrev pub IsWorkOf : OrderedChange → Result Work Fault → Type 0
+  IsWorkOf (Whole change) found = found ≡ Ok (Makes change)
+  IsWorkOf (ThroughOrder direction number) found = found ≡ Ok (Moves direction number)
+  IsWorkOf (BatchAt path force) (Ok work) = (text : List ℕ)
+      × IsTextAt (string_bytes path) text × (work ≡ Makes (Batch text force))
+  IsWorkOf (AdoptAt old) (Ok work) = (text : Option (List ℕ))
+      × IsTextAtIf (option_map string_bytes old) text × (work ≡ Makes (Adopt text))
+  IsWorkOf (WriteAt path over force) (Ok work) = (text : List ℕ) × (before : Option (List ℕ))
+      × IsTextAt (string_bytes path) text
+      × IsTextAtIf (option_map string_bytes over) before × (work ≡ Makes (Write text before force))
+  IsWorkOf _ (Err fault) = (fault ≡ OutOfMemory) ⊎ (fault ≡ StoreFailed)
+
+  -- it does so only with a file that is empty, where the disk tells what stands there
+  abbrev pub EmptiesEmpty : Job → Option (List ℕ) → Type 0
+  EmptiesEmpty job file = Empties job → IsTextAtIf file (Some [])
+
+  -- what an order has done, or why it can't be told
+  abbrev pub IsJobOf : Order → Result Job Fault → Type 0
+  IsJobOf (LookOrder look) found = found ≡ Ok (Once (Looks look))
+  IsJobOf (ChangeOrder order) (Ok job) = (work : Work) × IsWorkOf order (Ok work) × (job ≡ job_done work)
+  IsJobOf (PreviewOrder order style) (Ok job) = (work : Work) × IsWorkOf order (Ok work) × (job ≡ job_tried style work)
+  IsJobOf (ChangeOrder order) (Err fault) = IsWorkOf order (Err fault)
+  IsJobOf (PreviewOrder order style) (Err fault) = IsWorkOf order (Err fault)
+
+  -- The paths of the file and the journal of a home, by those that are given: these; but where the default journal of
+  -- a file is meant, that of the file to which its path leads, and its journal, where the disk tells what stands there;
+  -- or these can't be told, or another journal is in the way, or there is no memory for them. The empty path names no
+  -- journal.
+  abbrev pub ArePathsOf : Option (List ℕ) → JournalPath → Result (Option (List ℕ) × Option (List ℕ)) Fault → Type 0
+  ArePathsOf (Some path) Default (Ok at) = (file : List ℕ) × (at ≡ (Some file, Some (journal_of file)))
+      × Told story (AreDefaultPaths disk path file (journal_of file))
+  ArePathsOf (Some path) Default (Err fault) = (fault ≡ OutOfMemory) ⊎ (fault ≡ StoreFailed)
+  ArePathsOf file (Given path) found =
+      found ≡ (if is_nil (string_bytes path) then Err StoreFailed else Ok (file, Some (string_bytes path)))
+  ArePathsOf file journal found = found ≡ Ok (file, None)
+
+  -- what a line asks for, with the paths of the file and the journal of the home; or there is none, or no such paths,
+  -- or it is an empty text for a file
+  abbrev pub IsFoundFor : CommandLine → Result (Job × Option (List ℕ) × Option (List ℕ)) Fault → Type 0
+  IsFoundFor line (Ok found) = IsJobOf line.order (Ok found.0)
+      × ArePathsOf (option_map string_bytes line.file) line.journal (Ok (found.1, found.2))
+      × EmptiesEmpty found.0 found.1
+  IsFoundFor line (Err fault) = IsJobOf line.order (Err fault)
+      ⊎ ((job : Job) × IsJobOf line.order (Ok job)
+      × (ArePathsOf (option_map string_bytes line.file) line.journal (Err fault) ⊎ IsRefusedAsEmpty job fault))
 
 -- something is to be changed
 abbrev pub DoesChange : Job → Type 0
@@ -211,11 +207,7 @@ IsMovedTo number told (Ok reply) = (told.answer ≡ Ok reply) × (told.last ≡ 
 IsMovedTo number told (Err fault) = (told.answer ≡ Err fault)
     ⊎ ((fault ≡ StoreFailed) × (told.last ≢ Some number) × ((reply : Reply) × (told.answer ≡ Ok reply)))
 
-module _ {R D F S : Type 0} (place leads folder : List ℕ → List ℕ) (syncs : List ℕ → Bool) (story : D → Option Story)
-    (works : D → Type 0) (goes : DiskHome R D F S → Call → DiskHome R D F S → Type 0) where
-  abbrev pub places_of : DiskHome R D F S → Option Places
-  places_of home = places_by leads (option_map string_bytes home.file) (string_bytes home.journal)
-
+module _ {R D F S : Type 0} (disk : Disk D F S) (goes : DiskHome R D F S → Call → DiskHome R D F S → Type 0) where
   -- By calls by which the one home becomes the other, it is answered so.
   module _ (old new : DiskHome R D F S) where
     -- it is the answer of moves, each a change of its own
@@ -227,8 +219,8 @@ module _ {R D F S : Type 0} (place leads folder : List ℕ → List ℕ) (syncs 
       pub printed : Printed
       pub silent : IsSilence printed
       pub attempts : AttemptsAll goes old new (moves_through direction number answers) answers calls printed
-      pub on_disk : IfSome (places_of old) (λ at. AreRequestsAt place folder syncs at
-          (changing (change_of (move_through direction number))) answers (story old.disk) (story new.disk))
+      pub on_disk : IfSome (places_of disk old) (λ at. AreRequestsAt disk at
+          (changing (change_of (move_through direction number))) answers (disk.story old.disk) (disk.story new.disk))
       pub moved : IsMovedTo number told answer
 
     -- the same with what standard output takes
@@ -241,8 +233,8 @@ module _ {R D F S : Type 0} (place leads folder : List ℕ → List ℕ) (syncs 
         pub taken : Appends before.taken after.taken printed.text
         pub failed : printed.before ≡ before.failed
         pub attempts : Attempts goes old new (asked_of request) told calls printed
-        pub on_disk : IfSome (places_of old)
-            (λ at. IsRequestAt place folder syncs at (asked_of request) told (story old.disk) (story new.disk))
+        pub on_disk : IfSome (places_of disk old)
+            (λ at. IsRequestAt disk at (asked_of request) told (disk.story old.disk) (disk.story new.disk))
         pub let_out : IsLetOut told printed.after after answer
 
       -- it is that of a dry run of moves, once what it printed is let out; nothing is changed on the disk
@@ -254,7 +246,7 @@ module _ {R D F S : Type 0} (place leads folder : List ℕ → List ℕ) (syncs 
         pub taken : Appends before.taken after.taken printed.text
         pub failed : printed.before ≡ before.failed
         pub previews : PreviewsThrough goes old new style direction number answers printed
-        pub still : IfSome (places_of old) (λ at. story new.disk ≡ story old.disk)
+        pub still : IfSome (places_of disk old) (λ at. disk.story new.disk ≡ disk.story old.disk)
         pub reached : Answer
         pub moved : IsMovedTo number told reached
         pub let_out : IsLetOut reached printed.after after answer
@@ -277,22 +269,22 @@ module _ {R D F S : Type 0} (place leads folder : List ℕ → List ℕ) (syncs 
   -- where that does, and the home's disk is the last one.
   pub record IsCarriedOut (first last : D) (taken : Option (List ℕ)) (out : Option Out)
       (file journal : Option (List ℕ)) (job : Job) (answer : Answer) : Type 0 where
-    pub disk : D
-    pub same : story disk ≡ story first
-    pub works_still : works first → works disk
+    pub own : D
+    pub same : disk.story own ≡ disk.story first
+    pub works_still : disk.works first → disk.works own
     pub home : DiskHome R D F S
-    pub home_is : IsHomeFor disk file journal job home
+    pub home_is : IsHomeFor own file journal job home
     pub closed : DiskHome R D F S
     pub answered : AnswersOn home closed taken out job answer
     pub last_is : last ≡ closed.disk
 
   -- A line is answered so, from the first disk to the last, by a writer that took these bytes before, with standard
   -- output so then: its job is, on its files; or what it asks for isn't found, and nothing is changed or printed.
-  abbrev pub IsDone : (List ℕ → Option (List ℕ)) → D → D → Option (List ℕ) → Option Out → CommandLine → Answer → Type 0
-  IsDone link first last taken out line answer = (found : Result (Job × Option (List ℕ) × Option (List ℕ)) Fault)
-      × IsFoundFor place leads link (story first) line found
+  abbrev pub IsDone : D → D → Option (List ℕ) → Option Out → CommandLine → Answer → Type 0
+  IsDone first last taken out line answer = (found : Result (Job × Option (List ℕ) × Option (List ℕ)) Fault)
+      × IsFoundFor disk (disk.story first) line found
       × MatchResult found (λ task. IsCarriedOut first last taken out task.1 task.2 task.0 answer)
-      (λ fault. (answer ≡ Err fault) × (story last ≡ story first) × (out ≡ None))
+      (λ fault. (answer ≡ Err fault) × (disk.story last ≡ disk.story first) × (out ≡ None))
 
 -- The answer to words that are refused: that they are; but to those that ask for help there is no reply, unless it
 -- can't be printed.

@@ -21,9 +21,8 @@ pub fn answer_by<D: Disk + Drop, W: Write + Drop>(
     job: &Job,
     writer: W,
 ) -> (Result<Response, Refusal>, Option<StandardOutput<W>>)
-    ensures answers { AnswersOn D.place D.leads D.folder D.syncs D.story D.works
-        ⟦<DiskHome<'static, HostRuntime, D> as Home>⟧.goes home.old home.new (W.contents writer)
-        (option_map (out_of W.contents) result.1) job.now result.0 }
+    ensures answers { AnswersOn D.Disk ⟦<DiskHome<'static, HostRuntime, D> as Home>⟧.goes home.old home.new
+        (W.contents writer) (option_map (out_of W.contents) result.1) job.now result.0 }
     ensures shut { IsShut home.new.both }
 {
     let room = room_for(job.access());
@@ -43,9 +42,8 @@ fn answer_to<D: Disk + Drop, W: Write + Drop>(
     out: &mut StandardOutput<W>,
     job: &Job,
 ) -> Result<Response, Refusal>
-    ensures answers { BeforeClosing (λ done. Answers D.place D.leads D.folder D.syncs D.story D.works
-        ⟦<DiskHome<'static, HostRuntime, D> as Home>⟧.goes home.old done
-        (out_of W.contents out.old) (out_of W.contents out.new) job.now result) home.new }
+    ensures answers { BeforeClosing (λ done. Answers D.Disk ⟦<DiskHome<'static, HostRuntime, D> as Home>⟧.goes home.old
+        done (out_of W.contents out.old) (out_of W.contents out.new) job.now result) home.new }
 {
     match job {
         Job::Once(request) => {
@@ -79,9 +77,8 @@ fn run_dry<D: Disk + Drop, W: Write + Drop>(
     number: usize,
     style: &DiffStyle,
 ) -> Result<Response, Refusal>
-    ensures answers { AnswersDry D.place D.leads D.folder D.syncs D.story D.works
-        ⟦<DiskHome<'static, HostRuntime, D> as Home>⟧.goes home.old home.new (out_of W.contents out.old)
-        (out_of W.contents out.new) direction number style.now result }
+    ensures answers { AnswersDry D.Disk ⟦<DiskHome<'static, HostRuntime, D> as Home>⟧.goes home.old home.new
+        (out_of W.contents out.old) (out_of W.contents out.new) direction number style.now result }
 {
     let through = preview_through(rt.alloc(), home, out, direction, number, style);
     let_out(out, answer_of(through, number))
@@ -94,9 +91,8 @@ fn run_once<D: Disk + Drop, W: Write + Drop>(
     out: &mut StandardOutput<W>,
     request: &Request,
 ) -> Result<Response, Refusal>
-    ensures answers { AnswersOnce D.place D.leads D.folder D.syncs D.story D.works
-        ⟦<DiskHome<'static, HostRuntime, D> as Home>⟧.goes home.old home.new (out_of W.contents out.old)
-        (out_of W.contents out.new) request.now result }
+    ensures answers { AnswersOnce D.Disk ⟦<DiskHome<'static, HostRuntime, D> as Home>⟧.goes home.old home.new
+        (out_of W.contents out.old) (out_of W.contents out.new) request.now result }
 {
     let told = rec_files::run(rt.alloc(), home, out, request);
     let_out(out, told)
@@ -124,8 +120,8 @@ fn move_through<D: Disk + Drop>(
     direction: Direction,
     number: usize,
 ) -> Result<Response, Refusal>
-    ensures answers { BeforeClosing (λ done. AnswersThrough D.place D.leads D.folder D.syncs D.story D.works
-        ⟦<DiskHome<'static, HostRuntime, D> as Home>⟧.goes home.old done direction number result) home.new }
+    ensures answers { BeforeClosing (λ done. AnswersThrough D.Disk ⟦<DiskHome<'static, HostRuntime, D> as Home>⟧.goes
+        home.old done direction number result) home.new }
 {
     let through = run_through(rt.alloc(), home, direction, number);
     home.close();

@@ -53,9 +53,9 @@ pub fn status<D: Disk + Drop, W: Write + Drop, S: Sink>(
     words: &[String],
 ) -> (u8, D, Option<StandardOutput<W>>)
     ensures status { (answer : Result (Option ReplyOf) FaultOf) × (lost : Bool)
-        × IsAnswerTo (λ line told. IsDone D.place D.leads D.folder D.syncs D.story D.works
-        ⟦<DiskHome<'static, HostRuntime, D> as Home>⟧.goes D.link disk result.1 (W.contents out)
-        (option_map (out_of W.contents) result.2) line told × (IsTrue lost ↔ IsSomeAnd result.2 HasLostReader))
+        × IsAnswerTo (λ line told. IsDone D.Disk ⟦<DiskHome<'static, HostRuntime, D> as Home>⟧.goes disk result.1
+        (W.contents out) (option_map (out_of W.contents) result.2) line told
+        × (IsTrue lost ↔ IsSomeAnd result.2 HasLostReader))
         ((result.1 ≡ disk) × (result.2 ≡ None) × (IsTrue lost → answer ≡ Err Fault.StoreFailed))
         (map string_bytes words.now) answer
         × IsFinished lost answer result.0 (λ line. Says S.contents S.failure_count err.old err.new line)
@@ -83,11 +83,10 @@ fn answer<D: Disk + Drop, W: Write + Drop>(
     Option<StandardOutput<W>>,
     bool,
 )
-    ensures answer { IsAnswerTo (λ line told. IsDone D.place D.leads D.folder D.syncs D.story D.works
-        ⟦<DiskHome<'static, HostRuntime, D> as Home>⟧.goes D.link disk result.1 (W.contents out)
-        (option_map (out_of W.contents) result.2) line told × (IsTrue result.3 ↔ IsSomeAnd result.2 HasLostReader))
-        ((result.1 ≡ disk) × (result.2 ≡ None) × (IsTrue result.3 → result.0 ≡ Err Fault.StoreFailed))
-        (map string_bytes words.now) result.0 }
+    ensures answer { IsAnswerTo (λ line told. IsDone D.Disk ⟦<DiskHome<'static, HostRuntime, D> as Home>⟧.goes disk
+        result.1 (W.contents out) (option_map (out_of W.contents) result.2) line told
+        × (IsTrue result.3 ↔ IsSomeAnd result.2 HasLostReader)) ((result.1 ≡ disk) × (result.2 ≡ None)
+        × (IsTrue result.3 → result.0 ≡ Err Fault.StoreFailed)) (map string_bytes words.now) result.0 }
 {
     match parse(rt.alloc(), words) {
         Ok(line) => {
@@ -157,8 +156,7 @@ fn carry_out<D: Disk + Drop, W: Write + Drop>(
     out: W,
     line: CommandLine,
 ) -> (Result<Response, Refusal>, D, Option<StandardOutput<W>>)
-    ensures answer { IsDone D.place D.leads D.folder D.syncs D.story D.works
-        ⟦<DiskHome<'static, HostRuntime, D> as Home>⟧.goes D.link disk result.1 (W.contents out)
+    ensures answer { IsDone D.Disk ⟦<DiskHome<'static, HostRuntime, D> as Home>⟧.goes disk result.1 (W.contents out)
         (option_map (out_of W.contents) result.2) line result.0 }
 {
     match task_of(rt, &mut disk, line) {
@@ -174,9 +172,8 @@ fn do_task<D: Disk + Drop, W: Write + Drop>(
     out: W,
     task: Task,
 ) -> (Result<Response, Refusal>, D, Option<StandardOutput<W>>)
-    ensures answer { IsCarriedOut D.place D.leads D.folder D.syncs D.story D.works
-        ⟦<DiskHome<'static, HostRuntime, D> as Home>⟧.goes disk result.1 (W.contents out)
-        (option_map (out_of W.contents) result.2) (option_map string_bytes task.paths.file)
+    ensures answer { IsCarriedOut D.Disk ⟦<DiskHome<'static, HostRuntime, D> as Home>⟧.goes disk result.1
+        (W.contents out) (option_map (out_of W.contents) result.2) (option_map string_bytes task.paths.file)
         (option_map string_bytes task.paths.journal) task.job result.0 }
 {
     let Task { job, texts, paths } = task;
@@ -193,9 +190,9 @@ fn do_task<D: Disk + Drop, W: Write + Drop>(
 fn task_of<D: Disk>(rt: &HostRuntime, disk: &mut D, line: CommandLine) -> Result<Task, Fault>
     ensures same { D.story disk.new ≡ D.story disk.old }
     ensures works { D.works disk.old → D.works disk.new }
-    ensures found { IfOk result (λ task. IsFoundFor D.place D.leads D.link (D.story disk.old) line
-        (Ok (task.job, option_map string_bytes task.paths.file, option_map string_bytes task.paths.journal))) }
-    ensures refused { IfErr result (λ fault. IsFoundFor D.place D.leads D.link (D.story disk.old) line (Err fault)) }
+    ensures found { IfOk result (λ task. IsFoundFor D.Disk (D.story disk.old) line (Ok
+        (task.job, option_map string_bytes task.paths.file, option_map string_bytes task.paths.journal))) }
+    ensures refused { IfErr result (λ fault. IsFoundFor D.Disk (D.story disk.old) line (Err fault)) }
 {
     let CommandLine {
         order,
@@ -218,7 +215,7 @@ fn require_text<D: Disk>(
 ) -> Result<(), Fault>
     ensures same { D.story disk.new ≡ D.story disk.old }
     ensures works { D.works disk.old → D.works disk.new }
-    ensures empties { IfOk result (λ x. EmptiesEmpty D.leads (D.story disk.old) job.now
+    ensures empties { IfOk result (λ x. EmptiesEmpty D.Disk (D.story disk.old) job.now
         (option_map string_bytes file.now)) }
     ensures refused { IfErr result (IsRefusedAsEmpty job.now) }
 {
@@ -237,7 +234,7 @@ fn is_empty_at<D: Disk>(
 ) -> Result<bool, Fault>
     ensures same { D.story disk.new ≡ D.story disk.old }
     ensures works { D.works disk.old → D.works disk.new }
-    ensures empty { result ≡ Ok true → IsTextAtIf D.leads (D.story disk.old) (option_map string_bytes file.now)
+    ensures empty { result ≡ Ok true → IsTextAtIf D.Disk (D.story disk.old) (option_map string_bytes file.now)
         (Some []) }
     ensures refusals { IsOkUnlessEither result Fault.OutOfMemory Fault.StoreFailed }
 {
@@ -261,8 +258,8 @@ fn file_path(path: &str) -> &str
 fn job_of<D: Disk>(rt: &HostRuntime, disk: &mut D, order: Order) -> Result<(Job, TextPaths), Fault>
     ensures same { D.story disk.new ≡ D.story disk.old }
     ensures works { D.works disk.old → D.works disk.new }
-    ensures job { IfOk result (λ found. IsJobOf D.leads (D.story disk.old) order (Ok found.0)) }
-    ensures refused { IfErr result (λ fault. IsJobOf D.leads (D.story disk.old) order (Err fault)) }
+    ensures job { IfOk result (λ found. IsJobOf D.Disk (D.story disk.old) order (Ok found.0)) }
+    ensures refused { IfErr result (λ fault. IsJobOf D.Disk (D.story disk.old) order (Err fault)) }
 {
     match order {
         Order::Look(look) => Ok((Job::Once(Request::Look(look)), TextPaths::none())),
@@ -285,8 +282,8 @@ fn work_of<D: Disk>(
 ) -> Result<(Work, TextPaths), Fault>
     ensures same { D.story disk.new ≡ D.story disk.old }
     ensures works { D.works disk.old → D.works disk.new }
-    ensures work { IfOk result (λ found. IsWorkOf D.leads (D.story disk.old) order (Ok found.0)) }
-    ensures refused { IfErr result (λ fault. IsWorkOf D.leads (D.story disk.old) order (Err fault)) }
+    ensures work { IfOk result (λ found. IsWorkOf D.Disk (D.story disk.old) order (Ok found.0)) }
+    ensures refused { IfErr result (λ fault. IsWorkOf D.Disk (D.story disk.old) order (Err fault)) }
 {
     match order {
         ChangeOrder::Whole(change) => Ok((Work::Once(change), TextPaths::none())),
@@ -333,7 +330,7 @@ fn text_at_if<D: Disk>(
 ) -> Result<Option<Bytes>, Fault>
     ensures same { D.story disk.new ≡ D.story disk.old }
     ensures works { D.works disk.old → D.works disk.new }
-    ensures text { IfOk result (IsTextAtIf D.leads (D.story disk.old) (option_map string_bytes path.now)) }
+    ensures text { IfOk result (IsTextAtIf D.Disk (D.story disk.old) (option_map string_bytes path.now)) }
     ensures refusals { IsOkUnlessEither result Fault.OutOfMemory Fault.StoreFailed }
 {
     match path {
@@ -346,7 +343,7 @@ fn text_at_if<D: Disk>(
 fn text_at<D: Disk>(rt: &HostRuntime, disk: &mut D, path: &str) -> Result<Bytes, Fault>
     ensures same { D.story disk.new ≡ D.story disk.old }
     ensures works { D.works disk.old → D.works disk.new }
-    ensures text { IfOk result (IsTextAt D.leads (D.story disk.old) path.now) }
+    ensures text { IfOk result (IsTextAt D.Disk (D.story disk.old) path.now) }
     ensures refusals { IsOkUnlessEither result Fault.OutOfMemory Fault.StoreFailed }
 {
     say_empty(rt, path);
@@ -364,11 +361,10 @@ fn paths_of<D: Disk>(
 ) -> Result<Paths, Fault>
     ensures same { D.story disk.new ≡ D.story disk.old }
     ensures works { D.works disk.old → D.works disk.new }
-    ensures paths { IfOk result (λ paths. ArePathsOf D.place D.leads D.link (D.story disk.old)
-        (option_map string_bytes file) journal
+    ensures paths { IfOk result (λ paths. ArePathsOf D.Disk (D.story disk.old) (option_map string_bytes file) journal
         (Ok (option_map string_bytes paths.file, option_map string_bytes paths.journal))) }
-    ensures refused { IfErr result (λ fault. ArePathsOf D.place D.leads D.link (D.story disk.old)
-        (option_map string_bytes file) journal (Err fault)) }
+    ensures refused { IfErr result (λ fault. ArePathsOf D.Disk (D.story disk.old) (option_map string_bytes file) journal
+        (Err fault)) }
 {
     match (file, journal) {
         (Some(link), JournalPath::Default) => {

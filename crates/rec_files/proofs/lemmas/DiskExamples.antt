@@ -3,7 +3,8 @@ use Rattle.std.proofs.Common.{◌≡◌, inl, ℕ, zero, suc, Bool, true, false,
 use Rattle.std.specs.Prelude.{bytes_eq, is_some}
 use Rattle.std.proofs.lemmas.Bool.{false≢true}
 use Rattle.rec_disk.specs.declared.log.Rights.{Rights}
-use Rattle.rec_disk.specs.Disk.{State, Story, put, wrote}
+use Rattle.rec_disk.specs.declared.disk.Disk.{Ghosts as Disk}
+use Rattle.rec_disk.specs.Disk.{State, Look, put, wrote}
 use Rattle.rec_disk.specs.Lasting.{Spares}
 use Rattle.rec_tools.specs.Home.{Write, content_of, writes_by, got, put_all, put_some}
 use Rattle.rec_tools.specs.declared.home.Which.TheVariants.{Base, Journal}
@@ -60,17 +61,22 @@ disk = record {
 }
 
 -- a path is its place, and no path is a link
-abbrev itself : List ℕ → List ℕ
-itself path = path
-
-abbrev no_links : List ℕ → Option (List ℕ)
-no_links path = None
-
-abbrev regular : ℕ → Bool
-regular n = true
+abbrev small : Disk State ℕ (Option Look)
+small = record {
+  story = λ s. Some (record { now = s; past = [] });
+  place = λ path. path;
+  leads = λ path. path;
+  folder = λ place. [];
+  syncs = λ folder. true;
+  link = λ path. None;
+  number = λ n. n;
+  regular = λ n. true;
+  tells = λ look. look;
+  works = λ s. Unit {0};
+}
 
 abbrev Readable : State → Type 0
-Readable = IsReadable itself no_links regular Changes (Some file) journal None Base
+Readable = IsReadable small Changes (Some file) journal None Base
 
 readable : Readable disk
 readable = record {
@@ -101,7 +107,7 @@ read = record {
 }
 
 abbrev Puts : State → Type 0
-Puts = CanPut itself itself no_links regular read (writes_by (74 ∷ []) (Some (66 ∷ [])))
+Puts = CanPut small read (writes_by (74 ∷ []) (Some (66 ∷ [])))
 
 puts : Puts disk
 puts = record {
@@ -138,7 +144,7 @@ written can = omega (arith, can.begins.unchanged.file_stands.seen.version)
 -- ---- what is noted of both
 
 abbrev Noted : State → Type 0
-Noted = AreAsNoted itself read
+Noted = AreAsNoted small read
 
 noted : Noted disk
 noted = (record { number = refl; version = refl; rights = refl }, refl)
@@ -152,7 +158,7 @@ came seen = some_none 1 seen.1
 
 -- the file is read, and noted so; not where another program has locked it
 abbrev Free : State → Type 0
-Free = IsReadFree itself regular file (Some (Some (record { number = 0; version = 0; length = 1; rights = rights; is_link = false })))
+Free = IsReadFree small file (Some (Some (record { number = 0; version = 0; length = 1; rights = rights; is_link = false })))
 
 free : Free disk
 free = record { seen = record { number = refl; version = refl; rights = refl }; free = λ _. refl }
@@ -162,34 +168,31 @@ held read = false≢true (sym (read.free refl))
 
 -- ---- calls of the home
 
-abbrev told : State → Option Story
-told s = Some (record { now = s; past = [] })
-
 -- nothing is noted before the first read
 abbrev unread : Kept
 unread = record read { old_file = None; old_journal = None }
 
-notes : NotesRead itself regular unread read (told disk) (got Base (65 ∷ []))
+notes : NotesRead small unread read (small.story disk) (got Base (65 ∷ []))
 notes = free
 
-notes_nothing : NotesRead itself regular unread unread (told disk) (got Base (65 ∷ [])) → ⊥
+notes_nothing : NotesRead small unread unread (small.story disk) (got Base (65 ∷ [])) → ⊥
 notes_nothing none = none
 
 -- a read of the journal doesn't forget what is noted of the file
-forgets : NotesRead itself regular read (record read { old_file = None }) (told disk) (got Journal []) → ⊥
+forgets : NotesRead small read (record read { old_file = None }) (small.story disk) (got Journal []) → ⊥
 forgets notes = false≢true (ap is_some notes.0)
 
 abbrev both : List Write
 both = writes_by (74 ∷ []) (Some (66 ∷ []))
 
-replaces : ReplacesNoted itself read (told disk) (put_all both) (told disk)
+replaces : ReplacesNoted small read (small.story disk) (put_all both) (small.story disk)
 replaces = noted
 
 -- where the file was written since it was read, it isn't replaced; a put that fails then changes nothing
-overwrites : ReplacesNoted itself read (told (wrote disk 0 (65 ∷ []))) (put_all both) (told disk) → ⊥
+overwrites : ReplacesNoted small read (small.story (wrote disk 0 (65 ∷ []))) (put_all both) (small.story disk) → ⊥
 overwrites = rewritten
 
-gives_up : ReplacesNoted itself read (told (wrote disk 0 (65 ∷ []))) (put_some both 0) (told (wrote disk 0 (65 ∷ [])))
+gives_up : ReplacesNoted small read (small.story (wrote disk 0 (65 ∷ []))) (put_some both 0) (small.story (wrote disk 0 (65 ∷ [])))
 gives_up = inl refl
 
 -- a put of the journal alone doesn't put the bytes of the file in its place again

@@ -2,6 +2,7 @@
 use Rattle.std.proofs.Common.{◌≡◌, ◌∙◌, ℕ, ◌+◌, ◌-◌, ◌<◌, ◌≤◌, zero, suc, List, Option, Some, None, sym, ap, subst, arith}
 use Rattle.std.specs.Prelude.{MatchOption, IsSome, option_map, unwrap_or}
 use Rattle.std.proofs.lemmas.Bool.{false≢true}
+use Rattle.rec_disk.specs.declared.disk.Disk.{Ghosts as Disk}
 use Rattle.rec_disk.specs.Disk.{State, Story, Told}
 use Rattle.rec_disk.proofs.lemmas.Moments.{told_both}
 use Rattle.rec_files.specs.Paths.{end_of}
@@ -36,18 +37,17 @@ module _ (link : List ℕ → Option (List ℕ)) where
         ] so_far some
 
 -- The place to which a path leads is that of the path after its links, and there no link stands.
-module _ (link : List ℕ → Option (List ℕ)) (place leads : List ℕ → List ℕ)
-    (led : (path : List ℕ) → MatchOption (link path) (leads path ≡ place path) (λ next. leads path ≡ leads next)) where
-  pub led_to : (n : ℕ) (path last : List ℕ) → end_of link n path ≡ Some last → (leads path ≡ place last) × (leads last ≡ place last)
+module _ {D F S : Type 0} (disk : Disk D F S) (led : (path : List ℕ) → MatchOption (disk.link path) (disk.leads path ≡ disk.place path) (λ next. disk.leads path ≡ disk.leads next)) where
+  pub led_to : (n : ℕ) (path last : List ℕ) → end_of disk.link n path ≡ Some last → (disk.leads path ≡ disk.place last) × (disk.leads last ≡ disk.place last)
   led_to zero path last is = absurd cc
   led_to (suc n) path last is =
-      elim (link path) as (λ found. After link n path found ≡ Some last → MatchOption found (leads path ≡ place path) (λ next. leads path ≡ leads next)
-      → (leads path ≡ place last) × (leads last ≡ place last)) [
-        | None ↦ λ is. λ led. let same : path ≡ last = cc in (led ∙ ap place same, subst (λ p. leads p ≡ place p) same led)
+      elim (disk.link path) as (λ found. After disk.link n path found ≡ Some last → MatchOption found (disk.leads path ≡ disk.place path) (λ next. disk.leads path ≡ disk.leads next)
+      → (disk.leads path ≡ disk.place last) × (disk.leads last ≡ disk.place last)) [
+        | None ↦ λ is. λ led. let same : path ≡ last = cc in (led ∙ ap disk.place same, subst (λ p. disk.leads p ≡ disk.place p) same led)
         | Some next ↦ λ is. λ led. let on = led_to n next last is in (led ∙ on.0, on.1)
       ] is (led path)
 
-  pub own_place : (n : ℕ) (path last : List ℕ) (U : State → Type 0) (A B : Type 0) (o : Option Story) → IsTold o (λ s. U s × A × (end_of link n path ≡ Some last) × B)
-      → IsTold o (λ s. U s × (leads last ≡ place last))
+  pub own_place : (n : ℕ) (path last : List ℕ) (U : State → Type 0) (A B : Type 0) (o : Option Story) → IsTold o (λ s. U s × A × (end_of disk.link n path ≡ Some last) × B)
+      → IsTold o (λ s. U s × (disk.leads last ≡ disk.place last))
   own_place n path last U A B None told = absurd told
   own_place n path last U A B (Some a) told = (told.0, (led_to n path last told.2).1)

@@ -1,6 +1,7 @@
 -- What is seen of a file and its journal while they are put in place.
 use Rattle.std.proofs.Common.{◌≡◌, ◌≢◌, inl, inr, ℕ, Bool, true, false, List, Option, refl, sym, ◌∙◌, subst}
 use Rattle.std.proofs.lemmas.Bool.{false≢true}
+use Rattle.rec_disk.specs.declared.disk.Disk.{Ghosts as Disk}
 use Rattle.rec_disk.specs.Disk.{State, renamed, folder_synced}
 use Rattle.rec_disk.specs.Lasting.{Spares}
 use Rattle.rec_disk.specs.proving.Places.{IsSeen, Outlasts, Waits}
@@ -56,8 +57,7 @@ lasts_still crash F J p s t file journal was = record {
   journal = outlasts_still crash J p.journal s t journal was.journal;
 }
 
-module _ (folder : List ℕ → List ℕ) (syncs : List ℕ → Bool) (crash : Bool) (sites : Sites) (c : Contents) (journal file : List ℕ) (apart : AreApart sites)
-    (can : CanSync folder syncs crash (own_of sites)) where
+module _ {D F S : Type 0} (disk : Disk D F S) (crash : Bool) (sites : Sites) (c : Contents) (journal file : List ℕ) (apart : AreApart sites) (can : CanSync disk crash (own_of sites)) where
   abbrev p : Places
   p = own_of sites
 
@@ -73,30 +73,28 @@ module _ (folder : List ℕ → List ℕ) (syncs : List ℕ → Bool) (crash : B
   new_file : (s : State) → Waits s wf file → IsSeen crash (HasFile file) s (s.at wf)
   new_file s waits = waits_seen crash s wf file (HasFile file) refl waits
 
-  pub journal_placing : (s u : State) → LastAs crash p c.file c.journal s → Waits s wj journal → IsPlacing folder wj p.journal s u
+  pub journal_placing : (s u : State) → LastAs crash p c.file c.journal s → Waits s wj journal → IsPlacing disk.folder wj p.journal s u
       → Lasts crash (HasFile c.file) (Either (HasJournal c.journal) (HasJournal journal)) p u
   journal_placing s u was waits placing = record {
-    file = outlasts_still crash (HasFile c.file) p.file s u (spares-placing folder wj p.journal s p.file u apart.file_new_journal (λ e. apart.pair (sym e)) placing) was.file;
-    journal = either-placing folder wj p.journal s crash (HasJournal c.journal) (HasJournal journal) u was.journal (new_journal s waits) placing;
+    file = outlasts_still crash (HasFile c.file) p.file s u (spares-placing disk.folder wj p.journal s p.file u apart.file_new_journal (λ e. apart.pair (sym e)) placing) was.file;
+    journal = either-placing disk.folder wj p.journal s crash (HasJournal c.journal) (HasJournal journal) u was.journal (new_journal s waits) placing;
   }
 
-  pub journal_placed : (s u : State) → LastAs crash p c.file c.journal s → Waits s wj journal → IsPlaced folder syncs wj p.journal s u
-      → LastAs crash p c.file journal u
+  pub journal_placed : (s u : State) → LastAs crash p c.file c.journal s → Waits s wj journal → IsPlaced disk.folder disk.syncs wj p.journal s u → LastAs crash p c.file journal u
   journal_placed s u was waits placed = record {
-    file = outlasts_still crash (HasFile c.file) p.file s u (spares-placed folder wj p.journal s syncs p.file u apart.file_new_journal (λ e. apart.pair (sym e)) placed) was.file;
-    journal = outlasts-placed folder wj p.journal s crash (HasJournal journal) syncs u (λ e. (can e).1) (new_journal s waits) placed;
+    file = outlasts_still crash (HasFile c.file) p.file s u (spares-placed disk.folder wj p.journal s disk.syncs p.file u apart.file_new_journal (λ e. apart.pair (sym e)) placed) was.file;
+    journal = outlasts-placed disk.folder wj p.journal s crash (HasJournal journal) disk.syncs u (λ e. (can e).1) (new_journal s waits) placed;
   }
 
-  pub file_placing : (s u : State) → LastAs crash p c.file journal s → Waits s wf file → IsPlacing folder wf p.file s u
+  pub file_placing : (s u : State) → LastAs crash p c.file journal s → Waits s wf file → IsPlacing disk.folder wf p.file s u
       → Lasts crash (Either (HasFile c.file) (HasFile file)) (HasJournal journal) p u
   file_placing s u was waits placing = record {
-    file = either-placing folder wf p.file s crash (HasFile c.file) (HasFile file) u was.file (new_file s waits) placing;
-    journal = outlasts_still crash (HasJournal journal) p.journal s u (spares-placing folder wf p.file s p.journal u apart.journal_new_file apart.pair placing) was.journal;
+    file = either-placing disk.folder wf p.file s crash (HasFile c.file) (HasFile file) u was.file (new_file s waits) placing;
+    journal = outlasts_still crash (HasJournal journal) p.journal s u (spares-placing disk.folder wf p.file s p.journal u apart.journal_new_file apart.pair placing) was.journal;
   }
 
-  pub file_placed : (s u : State) → LastAs crash p c.file journal s → Waits s wf file → IsPlaced folder syncs wf p.file s u
-      → LastAs crash p file journal u
+  pub file_placed : (s u : State) → LastAs crash p c.file journal s → Waits s wf file → IsPlaced disk.folder disk.syncs wf p.file s u → LastAs crash p file journal u
   file_placed s u was waits placed = record {
-    file = outlasts-placed folder wf p.file s crash (HasFile file) syncs u (λ e. (can e).0) (new_file s waits) placed;
-    journal = outlasts_still crash (HasJournal journal) p.journal s u (spares-placed folder wf p.file s syncs p.journal u apart.journal_new_file apart.pair placed) was.journal;
+    file = outlasts-placed disk.folder wf p.file s crash (HasFile file) disk.syncs u (λ e. (can e).0) (new_file s waits) placed;
+    journal = outlasts_still crash (HasJournal journal) p.journal s u (spares-placed disk.folder wf p.file s disk.syncs p.journal u apart.journal_new_file apart.pair placed) was.journal;
   }

@@ -1,5 +1,6 @@
 -- The file that is put comes next, as long as what stands there is spared.
 use Rattle.std.proofs.Common.{◌≡◌, inl, sym, subst, ℕ, Bool, List, Option, Some, None, IsSomeAnd}
+use Rattle.rec_disk.specs.declared.disk.Disk.{Ghosts as Disk}
 use Rattle.rec_disk.specs.Disk.{State, Story}
 use Rattle.rec_disk.specs.Lasting.{Spares, shown}
 use Rattle.rec_disk.specs.proving.Places.{IsSettled}
@@ -30,7 +31,6 @@ module _ (sites : Sites) (journal : List ℕ) where
       some_spared (λ n. IsStopBetween (s.bytes n) file journal) (λ n. IsStopBetween (t.bytes n) file journal) (s.at sites.file) (t.at sites.file) same.at
       (λ n at is. subst (λ l. IsStopBetween l file journal) (sym (same.bytes n (inl (sym at)))) is) was
 
-  pub recovers_by : (folder : List ℕ → List ℕ) (syncs : List ℕ → Bool) (file : Option (List ℕ)) (o n : Option Story) → Recovers folder syncs sites journal file o n
-      → RecoversBy folder syncs sites (writes_by journal file) o n
-  recovers_by folder syncs None o n is = is
-  recovers_by folder syncs (Some bytes) o n is = is
+  pub recovers_by : {D F S : Type 0} (disk : Disk D F S) (file : Option (List ℕ)) (o n : Option Story) → Recovers disk sites journal file o n → RecoversBy disk sites (writes_by journal file) o n
+  recovers_by disk None o n is = is
+  recovers_by disk (Some bytes) o n is = is

@@ -1,8 +1,8 @@
 -- A request on a disk: its calls, and what is left at any moment of them.
 use Rattle.std.proofs.Common.{◌≡◌, ◌⊎◌, inl, inr, refl, sym, ◌∙◌, ap, subst, arith, ℕ, zero, suc, ◌≤◌, Bool, false, List, [], ◌∷◌, ◌++◌, length, take, length-append, append-nil, replicate}
 use Rattle.std.proofs.Common.{Option, Some, None, IfSome, IsSomeAnd, Result, Ok, Err}
-use Rattle.std.specs.Prelude.{option_map, string_bytes}
-use Rattle.rec_disk.specs.Disk.{State, Story, Look, Told, AtAnyMoment}
+use Rattle.rec_disk.specs.Disk.{State, Story, Told, AtAnyMoment}
+use Rattle.rec_disk.specs.declared.disk.Disk.{Ghosts as Disk}
 use Rattle.rec_files.specs.declared.files.DiskHome.{DiskHome}
 use Rattle.rec_files.specs.Succeeding.{HomeGoes}
 use Rattle.rec_disk.specs.Lasting.{Left, shown}
@@ -28,7 +28,7 @@ use Rattle.rec_tools.specs.Answers.{IsOldOrNext}
 use Rattle.rec_tools.specs.States.{State as Machine}
 use Rattle.rec_tools.specs.Guarantee.{StopsAreSteps}
 use Rattle.rec_files.specs.OnDisk.{Places, Shows, Holds, IsRead, IsSecure, CanSync, IsCallAt, IsWhole, writes_of, contents_on, or_empty, StandsThen, SecureRequest, LastingRequest, Sites}
-use Rattle.rec_files.specs.OnDisk.{sites_of, IsNext, Recovers, RecoversBy, RecoversAt, RecoversThen, RecoversRequest, IsRequestAt, AreRequestsAt, places_by}
+use Rattle.rec_files.specs.OnDisk.{sites_of, IsNext, Recovers, RecoversBy, RecoversAt, RecoversThen, RecoversRequest, IsRequestAt, AreRequestsAt, places_of}
 use Rattle.rec_files.specs.Leftovers.{IsStopBetween}
 use Rattle.rec_files.proofs.lemmas.Outcomes.{Puts, puts_left}
 use Rattle.rec_files.proofs.lemmas.Holding.{read_there}
@@ -153,10 +153,10 @@ take_none (suc k) = refl
 
 -- ---- what is put can be told to be left over
 
-recovers_puts : (folder : List ℕ → List ℕ) (syncs : List ℕ → Bool) (sites : Sites) (journal : List ℕ) (file : Option (List ℕ)) (o n : Option Story)
-    → RecoversBy folder syncs sites (writes_by journal file) o n → Recovers folder syncs sites journal file o n
-recovers_puts folder syncs sites journal None o n is = is
-recovers_puts folder syncs sites journal (Some bytes) o n is = is
+recovers_puts : {D F S : Type 0} (disk : Disk D F S) (sites : Sites) (journal : List ℕ) (file : Option (List ℕ)) (o n : Option Story)
+    → RecoversBy disk sites (writes_by journal file) o n → Recovers disk sites journal file o n
+recovers_puts disk sites journal None o n is = is
+recovers_puts disk sites journal (Some bytes) o n is = is
 
 abbrev Missing : Option (List ℕ) → Type 0
 Missing None = Unit {0}
@@ -178,19 +178,18 @@ is_next place p c path_file path_journal journal None s read at between = tt
 is_next place p c path_file path_journal journal (Some f) s read at between =
     next_there s.bytes (s.at (place path_file)) c.file f journal (ap (λ q. shown s.bytes (s.at q)) at ∙ (read_there p c s read).0) between
 
-puts_recover : (place folder : List ℕ → List ℕ) (syncs : List ℕ → Bool) (p : Places) (c : Contents) (writes : List Write) (o n : Option Story)
-    → Told o (IsRead p c) → Puts c writes → RecoversAt place folder syncs p writes o n → RecoversThen place folder syncs p o n
-puts_recover place folder syncs p c writes o n read puts (inl same) = inl same
-puts_recover place folder syncs p c writes o n read puts (inr (file, journal, at, recovers)) =
-    let sites = sites_of place file journal in
-    let by = recovers_puts folder syncs sites puts.journal puts.file o n (subst (λ writes. RecoversBy folder syncs sites writes o n) puts.are recovers) in
+puts_recover : {D F S : Type 0} (disk : Disk D F S) (p : Places) (c : Contents) (writes : List Write) (o n : Option Story)
+    → Told o (IsRead p c) → Puts c writes → RecoversAt disk p writes o n → RecoversThen disk p o n
+puts_recover disk p c writes o n read puts (inl same) = inl same
+puts_recover disk p c writes o n read puts (inr (file, journal, at, recovers)) =
+    let sites = sites_of disk.place file journal in
+    let by = recovers_puts disk sites puts.journal puts.file o n (subst (λ writes. RecoversBy disk sites writes o n) puts.are recovers) in
     inr (
       file,
       journal,
       at,
-      λ crash can. by crash can puts.begins
-          (told_both (IsRead p c) (λ s. (place file ≡ p.file) × (place journal ≡ p.journal)) (IsNext sites puts.journal puts.file) o
-          (λ s read at. is_next place p c file journal puts.journal puts.file s read at.0 puts.between) read at),
+      λ crash can. by crash can puts.begins (told_both (IsRead p c) (λ s. (disk.place file ≡ p.file) × (disk.place journal ≡ p.journal)) (IsNext sites puts.journal puts.file) o
+          (λ s read at. is_next disk.place p c file journal puts.journal puts.file s read at.0 puts.between) read at),
     )
 
 -- ---- the machine
@@ -249,16 +248,15 @@ reads_still (Err fault) calls stops = stopped (TheFile ∷ TheJournal ∷ []) ca
 
 -- ---- on a home on a disk
 
-module _ {R D F S : Type 0} (place leads : List ℕ → List ℕ) (link : List ℕ → Option (List ℕ)) (folder : List ℕ → List ℕ) (syncs : List ℕ → Bool) (regular : ℕ → Bool) (number : F → ℕ)
-    (tells : S → Option Look) (story : D → Option Story) (works : D → Type 0) where
+module _ {R D F S : Type 0} (disk : Disk D F S) where
   abbrev Go : DiskHome R D F S → Call → DiskHome R D F S → Type 0
-  Go = HomeGoes place leads link folder syncs regular number tells story works
+  Go = HomeGoes disk
 
   abbrev at : DiskHome R D F S → Option Places
-  at home = places_by leads (option_map string_bytes home.file) (string_bytes home.journal)
+  at = places_of disk
 
   abbrev told : DiskHome R D F S → Option Story
-  told home = story home.disk
+  told home = disk.story home.disk
 
   -- the paths stay
   went_same : (calls : List Call) (o n : DiskHome R D F S) → Went Go o calls n → at n ≡ at o
@@ -267,10 +265,10 @@ module _ {R D F S : Type 0} (place leads : List ℕ → List ℕ) (link : List �
 
   module _ (p : Places) where
     abbrev CallAt : DiskHome R D F S → Call → DiskHome R D F S → Type 0
-    CallAt o call n = IsCallAt place folder syncs p (told o) call (told n)
+    CallAt o call n = IsCallAt disk p (told o) call (told n)
 
     call_at : (o n : DiskHome R D F S) (call : Call) → at o ≡ Some p → Go o call n → CallAt o call n
-    call_at o n call is goes = subst (λ x. IfSome x (λ p. IsCallAt place folder syncs p (told o) call (told n))) is goes.0.calls
+    call_at o n call is goes = subst (λ x. IfSome x (λ p. IsCallAt disk p (told o) call (told n))) is goes.0.calls
 
     -- the contents are read as they are
     tell_all : (calls : List Call) (o n : DiskHome R D F S) (c : Contents) → at o ≡ Some p → contents_on (Some p) (told o) ≡ Some c → Went Go o calls n → TellAll c calls
@@ -293,7 +291,7 @@ module _ {R D F S : Type 0} (place leads : List ℕ → List ℕ) (link : List �
       call = lacked TheFile;
       writes = refl;
       whole = λ never. never;
-      is = call_still place folder syncs p (told o) (told n) (lacked TheFile) (ap told went) (λ never. never);
+      is = call_still disk p (told o) (told n) (lacked TheFile) (ap told went) (λ never. never);
     }
     went_one (call ∷ []) o n is (mid, goes, went) reads =
         record { call = call; writes = refl; whole = λ whole. whole; is = subst (λ n. CallAt o call n) (sym went) (call_at o mid call is goes) }
@@ -303,7 +301,7 @@ module _ {R D F S : Type 0} (place leads : List ℕ → List ℕ) (link : List �
           call = one.call;
           writes = one.writes;
           whole = one.whole;
-          is = subst (λ x. IsCallAt place folder syncs p x one.call (told n)) ((call_at o mid call is goes).still (got_writes call reads.0)) one.is;
+          is = subst (λ x. IsCallAt disk p x one.call (told n)) ((call_at o mid call is goes).still (got_writes call reads.0)) one.is;
         }
 
     went_still : (calls : List Call) (o n : DiskHome R D F S) → at o ≡ Some p → Went Go o calls n → ReadsFirst calls → last_writes calls ≡ [] → told n ≡ told o
@@ -325,10 +323,10 @@ module _ {R D F S : Type 0} (place leads : List ℕ → List ℕ) (link : List �
       does_known c (Some a) is read =
           inr (does_writes c (asked_of request) answer printed calls (done.2 c (tell_all calls o n c e (ap (contents_on (Some p)) is ∙ read) done.0)))
 
-      secure_calls : (crash : Bool) (c : Contents) → CanSync folder syncs crash p → Told (told o) (IsRead p c) → AtAnyMoment (told o) (told n) (IsSecure crash p c (last_writes calls))
+      secure_calls : (crash : Bool) (c : Contents) → CanSync disk crash p → Told (told o) (IsRead p c) → AtAnyMoment (told o) (told n) (IsSecure crash p c (last_writes calls))
       secure_calls crash c can read = subst (λ writes. AtAnyMoment (told o) (told n) (IsSecure crash p c writes)) one.writes (one.is.any_moment crash c can read)
 
-      request_secure : SecureRequest folder syncs p (asked_of request) (told o) (told n)
+      request_secure : SecureRequest disk p (asked_of request) (told o) (told n)
       request_secure crash c s can read stands regular =
           elim (does_known c (told o) refl read) [
             | inl none ↦ none_any (IsSecure crash p c (last_writes calls)) (StandsThen crash p s (asked_of request)) (told o) (told n) none (secure_calls crash c can read)
@@ -336,7 +334,7 @@ module _ {R D F S : Type 0} (place leads : List ℕ → List ℕ) (link : List �
                 (λ before u secure. then_stands laws request answer printed p crash c s stands regular calls known before u secure) (secure_calls crash c can read)
           ]
 
-      request_lasts : (answer ≡ Err StoreFailed) ⊎ LastingRequest folder syncs p (told o) (told n)
+      request_lasts : (answer ≡ Err StoreFailed) ⊎ LastingRequest disk p (told o) (told n)
       request_lasts =
           elim does_some.are.is_whole [
             | inl none ↦ inr (inl (nothing_written (does_some.are.writes_are ∙ none)))
@@ -346,37 +344,35 @@ module _ {R D F S : Type 0} (place leads : List ℕ → List ℕ) (link : List �
           ]
 
       recovers_known : (c : Contents) → (known : Writes c (asked_of request) answer printed calls) → Told (told o) (IsRead p c) → IsRegular c.journal
-          → (known.writes ≡ []) ⊎ ((outcome : Outcome) × IsRequestOutcome c (asked_of request) (Ok outcome) × (known.writes ≡ outcome.writes))
-          → RecoversThen place folder syncs p (told o) (told n)
+          → (known.writes ≡ []) ⊎ ((outcome : Outcome) × IsRequestOutcome c (asked_of request) (Ok outcome) × (known.writes ≡ outcome.writes)) → RecoversThen disk p (told o) (told n)
       recovers_known c known read regular (inl none) = inl (nothing_written (known.are.writes_are ∙ none))
       recovers_known c known read regular (inr (outcome, is_outcome, is)) =
           elim (puts_left c (asked_of request) outcome regular is_outcome) [
             | inl none ↦ inl (nothing_written (known.are.writes_are ∙ is ∙ none))
-            | inr puts ↦ puts_recover place folder syncs p c outcome.writes (told o) (told n) read puts
-                (subst (λ writes. RecoversAt place folder syncs p writes (told o) (told n)) (one.writes ∙ known.are.writes_are ∙ is) one.is.recovers)
+            | inr puts ↦ puts_recover disk p c outcome.writes (told o) (told n) read puts
+                (subst (λ writes. RecoversAt disk p writes (told o) (told n)) (one.writes ∙ known.are.writes_are ∙ is) one.is.recovers)
           ]
 
-      request_recovers : RecoversRequest place folder syncs p (told o) (told n)
+      request_recovers : RecoversRequest disk p (told o) (told n)
       request_recovers c read regular =
           elim (does_known c (told o) refl read) [
-            | inl none ↦ inl (none_still (IsSecure false p c (last_writes calls)) (told o) (told n) none (secure_calls false c (no_crash folder syncs p) read))
+            | inl none ↦ inl (none_still (IsSecure false p c (last_writes calls)) (told o) (told n) none (secure_calls false c (no_crash disk p) read))
             | inr known ↦ recovers_known c known read regular known.come
           ]
 
       -- all of it
-      request_at : IsRequestAt place folder syncs p (asked_of request) answer (told o) (told n)
+      request_at : IsRequestAt disk p (asked_of request) answer (told o) (told n)
       request_at = record { any_moment = request_secure; lasting = request_lasts; touches = one.is.touches; recovers = request_recovers }
 
   pub request_on : (laws : StopsAreSteps) (request : Request) (answer : Answer) (calls : List Call) (printed : Printed) (o n : DiskHome R D F S)
-      → Attempts Go o n (asked_of request) answer calls printed → (x : Option Places) → at o ≡ x
-      → IfSome x (λ p. IsRequestAt place folder syncs p (asked_of request) answer (told o) (told n))
+      → Attempts Go o n (asked_of request) answer calls printed → (x : Option Places) → at o ≡ x → IfSome x (λ p. IsRequestAt disk p (asked_of request) answer (told o) (told n))
   request_on laws request answer calls printed o n done None e = tt
   request_on laws request answer calls printed o n done (Some p) e = request_at p laws request answer calls printed o n done e
 
   -- ---- one request after another
 
   all_at : (laws : StopsAreSteps) (request : Request) (p : Places) (answers : List Answer) (o n : DiskHome R D F S) (calls : List Call) (printed : Printed) → at o ≡ Some p
-      → AttemptsAll Go o n (replicate (length answers) request) answers calls printed → AreRequestsAt place folder syncs p (asked_of request) answers (told o) (told n)
+      → AttemptsAll Go o n (replicate (length answers) request) answers calls printed → AreRequestsAt disk p (asked_of request) answers (told o) (told n)
   all_at laws request p [] o n calls printed e done = ap told done.0
   all_at laws request p (answer ∷ answers) o n calls printed e (mid, now, later, first, rest, are, parts, tried, tried_later) = (
     told mid,
@@ -386,7 +382,7 @@ module _ {R D F S : Type 0} (place leads : List ℕ → List ℕ) (link : List �
 
   pub moves_at : (laws : StopsAreSteps) (direction : Direction) (count : ℕ) (o n : DiskHome R D F S) (x : Option Places) → at o ≡ x → (answers : List Answer) (calls : List Call) (printed : Printed)
       → AttemptsAll Go o n (moves_through direction count answers) answers calls printed
-      → IfSome x (λ p. AreRequestsAt place folder syncs p (changing (change_of (move_through direction count))) answers (told o) (told n))
+      → IfSome x (λ p. AreRequestsAt disk p (changing (change_of (move_through direction count))) answers (told o) (told n))
   moves_at laws direction count o n None e answers calls printed done = tt
   moves_at laws direction count o n (Some p) e answers calls printed done = all_at laws (Changes (move_through direction count)) p answers o n calls printed e done
 

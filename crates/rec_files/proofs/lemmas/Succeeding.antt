@@ -5,6 +5,7 @@ use Rattle.std.specs.Prelude.{IsTrue, IsSome, is_some, option_map, string_bytes,
 use Rattle.std.specs.List.{AllByRecursion}
 use Rattle.std.specs.Option.{option_and_then}
 use Rattle.std.proofs.lemmas.Bool.{false≢true}
+use Rattle.rec_disk.specs.declared.disk.Disk.{Ghosts as Disk}
 use Rattle.rec_disk.specs.Disk.{State, Story, Look, Told, IsLookAt, IsLookFor, AtAnyMoment}
 use Rattle.rec_disk.specs.Lasting.{Spares}
 use Rattle.rec_text.specs.declared.fault.Fault.{Fault}
@@ -13,9 +14,9 @@ use Rattle.rec_tools.specs.Home.{Call, read_call, unread, writes_by}
 use Rattle.rec_files.specs.declared.failure.Failure.{Failure}
 use Rattle.rec_files.specs.declared.open_file.OpenFile.{OpenFile}
 use Rattle.rec_files.specs.declared.target.Target.{Target}
-use Rattle.rec_files.specs.Succeeding.{FailedForMemory, Kept, IsExcused, IsTold, Known, known, HasSeen, SawAnother, StandsAsSeen, IsOther, IsShort}
-use Rattle.rec_files.specs.declared.last_put.LastPut.{LastPut}
-use Rattle.rec_files.specs.Succeeding.{HadAll, CanPut, CanCompare, CanClear, CanPrepare, IsThere, IsReadable, IsRegularAt, IsUnlocked, other_for}
+use Rattle.rec_files.specs.declared.files.DiskHome.{DiskHome}
+use Rattle.rec_files.specs.Succeeding.{FailedForMemory, IsExcused, IsTold, Known, known, kept, HasSeen, SawAnother, StandsAsSeen, IsOther, IsShort}
+use Rattle.rec_files.specs.Succeeding.{HadAll, CanPut, CanCompare, CanClear, CanPrepare, CanBeRead, IsThere, IsReadable, IsRegularAt, IsUnlocked, other_for}
 use Rattle.rec_tools.specs.declared.home.Which.{Which}
 use Rattle.rec_tools.specs.declared.home.Which.TheVariants.{Base, Journal}
 use Rattle.rec_files.specs.declared.access.Access.{Access}
@@ -26,7 +27,7 @@ use Rattle.rec_files.specs.Leftovers.{IsLeftJournal, IsLeftText}
 use Rattle.rec_disk.specs.Paths.{working_name}
 use Rattle.rec_files.specs.Paths.{path_of, end_of}
 use Rattle.rec_files.specs.OnDisk.{Sites, sites_of}
-use Rattle.rec_files.proofs.lemmas.Steps.{some_so}
+use Rattle.rec_files.proofs.lemmas.Steps.{some_known, some_so}
 use Rattle.rec_files.proofs.lemmas.Links.{led_to}
 
 pub still_so : (P Q : State → Type 0) (o : Option Story) → ((s : State) → P s → Q s) → IsTold o P → IsTold o Q
@@ -53,59 +54,53 @@ told_there P o b same told = subst (λ b. IsTold b (λ s. Unit {0})) (sym same) 
 -- ---- files
 
 -- what was read and still stands there can be read again
-module _ {X : Type 0} (number : X → ℕ) (tells : X → Option Look) where
-  pub can_read : (p : List ℕ) (old : Option X) (s : State) → s.at p ≡ option_map number old → HasSeen p (option_map tells old) s → IfSome (option_map number old) (IsShort s)
-      → IfSome old (λ o. CanRead (number o) (tells o) s)
-  can_read p None s at seen short = tt
-  can_read p (Some o) s at seen short = record {
-    short = short;
-    same = some_so (tells o) (IsLookAt s p) (IsLookStill s (number o))
-        (λ look is. let same : look.number ≡ number o = cc in (same, (is.version ∙ ap s.version same, is.rights ∙ ap s.rights same))) seen;
-  }
+can_read : {D F S : Type 0} (disk : Disk D F S) (p : List ℕ) (old : Option (OpenFile D F S)) (s : State) → s.at p ≡ option_map (λ o. disk.number o.file) old
+    → HasSeen p (option_map (λ o. disk.tells o.seen) old) s → IfSome (option_map (λ o. disk.number o.file) old) (IsShort s) → IfSome old (λ o. CanRead disk o s)
+can_read disk p None s at seen short = tt
+can_read disk p (Some o) s at seen short = record {
+  short = short;
+  same = some_so (disk.tells o.seen) (IsLookAt s p) (IsLookStill s (disk.number o.file))
+      (λ look is. let same : look.number ≡ disk.number o.file = cc in (same, (is.version ∙ ap s.version same, is.rights ∙ ap s.rights same))) seen;
+}
 
-  pub both_read : (old other : Option X) (s : State) (P : Type 0) → P → IfSome old (λ o. CanRead (number o) (tells o) s) → IfSome other (λ o. CanRead (number o) (tells o) s)
-      → IfSome old (λ o. IfSome other (λ j. P × CanRead (number o) (tells o) s × CanRead (number j) (tells j) s))
-  both_read None other s P holds one two = tt
-  both_read (Some o) None s P holds one two = tt
-  both_read (Some o) (Some j) s P holds one two = (holds, one, two)
+if_two : {X : Type 0} (x y : Option X) (P : Type 0) (Q : X → Type 0) → P → IfSome x Q → IfSome y Q → IfSome x (λ o. IfSome y (λ j. P × Q o × Q j))
+if_two None y P Q holds one two = tt
+if_two (Some o) None P Q holds one two = tt
+if_two (Some o) (Some j) P Q holds one two = (holds, one, two)
 
 -- ---- what stands under a working name
 
-module _ (place leads : List ℕ → List ℕ) (regular : ℕ → Bool) (file journal : Known) where
-  pub seen_other : (name : List ℕ) (look : Option Look) (o b : Option Story) → b ≡ o
-      → IsTold o (λ s. IfSome (s.at (place name)) (λ n. (s.held n ≡ false) × IsOther place leads regular name file journal n))
-      → Told o (λ s. IsSomeAnd look (IsLookAt s (place name))) → IsTold b (λ s. IsSomeAnd look (λ look. SawAnother look.number journal.look))
+module _ {D F S : Type 0} (disk : Disk D F S) (file journal : Known) where
+  pub seen_other : (name : List ℕ) (look : Option Look) (o b : Option Story) → b ≡ o → IsTold o (λ s. IfSome (s.at (disk.place name)) (λ n. (s.held n ≡ false) × IsOther disk name file journal n))
+      → Told o (λ s. IsSomeAnd look (IsLookAt s (disk.place name))) → IsTold b (λ s. IsSomeAnd look (λ look. SawAnother look.number journal.look))
   seen_other name None None b same given seen = absurd given
   seen_other name (Some look) None b same given seen = absurd given
   seen_other name None (Some a) b same given seen = absurd seen
   seen_other name (Some look) (Some a) b same given seen =
       subst (λ b. IsTold b (λ s. SawAnother look.number journal.look)) (sym same)
-      (subst (λ x. IfSome x (λ n. (a.now.held n ≡ false) × IsOther place leads regular name file journal n)) seen.number given).1.not_journal
+      (subst (λ x. IfSome x (λ n. (a.now.held n ≡ false) × IsOther disk name file journal n)) seen.number given).1.not_journal
 
-  -- and the number of what was found there
-  pub found_read : {X : Type 0} (number : X → ℕ) (tells : X → Option Look) (old other : Option X) (name : List ℕ) (n : ℕ) (beside : Bool) (o b : Option Story)
-      → file.number ≡ option_map number old → file.look ≡ option_map tells old → journal.number ≡ option_map number other → journal.look ≡ option_map tells other
-      → name ≡ working_name file.path → b ≡ o → beside ≡ false
-      → IsTold o (λ s. IfSome (s.at (place (working_name file.path))) (λ n. (s.held n ≡ false) × IsOther place leads regular (working_name file.path) file journal n
-      × (IsTrue beside ⊎ (IsLeftText s.bytes (s.at (place file.path)) n (s.at (place journal.path)) × CanCompare place file journal n s))))
-      → Told o (λ s. s.at (place name) ≡ Some n)
-      → IsTold b (λ s. IfSome old (λ o. IfSome other (λ j. IsShort s n × CanRead (number o) (tells o) s × CanRead (number j) (tells j) s)))
-  found_read number tells old other name n beside None b file_number file_look journal_number journal_look named same not_beside given at = absurd given
-  found_read number tells old other name n beside (Some a) b file_number file_look journal_number journal_look named same not_beside given at =
-      let Reads : State → Type 0 = λ s. IfSome old (λ o. IfSome other (λ j. IsShort s n × CanRead (number o) (tells o) s × CanRead (number j) (tells j) s)) in
-      let compared : CanCompare place file journal n a.now =
-      elim (subst (λ x. IfSome x (λ n. (a.now.held n ≡ false) × IsOther place leads regular (working_name file.path) file journal n
-      × (IsTrue beside ⊎ (IsLeftText a.now.bytes (a.now.at (place file.path)) n (a.now.at (place journal.path)) × CanCompare place file journal n a.now))))
-      (sym (ap (λ w. a.now.at (place w)) named) ∙ at) given).2 [
+-- and the number of what was found there
+module _ {D F S : Type 0} (disk : Disk D F S) (file journal : Target D F S) where
+  abbrev Reads : ℕ → State → Type 0
+  Reads n s = IfSome file.old (λ o. IfSome journal.old (λ j. IsShort s n × CanRead disk o s × CanRead disk j s))
+
+  abbrev Compares : Bool → State → ℕ → Type 0
+  Compares beside s n = (s.held n ≡ false) × IsOther disk (working_name file.names) (known disk file) (known disk journal) n
+      × (IsTrue beside ⊎ (IsLeftText s.bytes (s.at (disk.place file.names)) n (s.at (disk.place journal.names)) × CanCompare disk (known disk file) (known disk journal) n s))
+
+  pub found_read : (name : List ℕ) (n : ℕ) (beside : Bool) (o b : Option Story) → name ≡ working_name file.names → b ≡ o → beside ≡ false
+      → IsTold o (λ s. IfSome (s.at (disk.place (working_name file.names))) (Compares beside s)) → Told o (λ s. s.at (disk.place name) ≡ Some n) → IsTold b (Reads n)
+  found_read name n beside None b named same not_beside given at = absurd given
+  found_read name n beside (Some a) b named same not_beside given at =
+      let compared : CanCompare disk (known disk file) (known disk journal) n a.now =
+      elim (subst (λ x. IfSome x (Compares beside a.now)) (sym (ap (λ w. a.now.at (disk.place w)) named) ∙ at) given).2 [
         | inl beside_it ↦ absurd (false≢true (sym not_beside ∙ beside_it))
         | inr left ↦ left.1
       ] in
-      subst (λ b. IsTold b Reads) (sym same)
-      (both_read number tells old other a.now (IsShort a.now n) compared.short
-      (can_read number tells (place file.path) old a.now (compared.file_stands.at ∙ file_number) (subst (λ l. HasSeen (place file.path) l a.now) file_look compared.file_stands.seen)
-      (subst (λ x. IfSome x (IsShort a.now)) file_number compared.file_short))
-      (can_read number tells (place journal.path) other a.now (compared.journal_stands.at ∙ journal_number)
-      (subst (λ l. HasSeen (place journal.path) l a.now) journal_look compared.journal_stands.seen) (subst (λ x. IfSome x (IsShort a.now)) journal_number compared.journal_short)))
+      subst (λ b. IsTold b (Reads n)) (sym same) (if_two file.old journal.old (IsShort a.now n) (λ o. CanRead disk o a.now) compared.short
+      (can_read disk (disk.place file.names) file.old a.now compared.file_stands.at compared.file_stands.seen compared.file_short)
+      (can_read disk (disk.place journal.names) journal.old a.now compared.journal_stands.at compared.journal_stands.seen compared.journal_short))
 
 if_both : (x : Option ℕ) (P Q R : ℕ → Type 0) → ((n : ℕ) → P n → Q n → R n) → IfSome x P → IfSome x Q → IfSome x R
 if_both None P Q R so one other = tt
@@ -115,21 +110,21 @@ pub mapped_some : {X : Type 0} (f : X → ℕ) (o : Option X) → IsSome (option
 mapped_some f None is = is
 mapped_some f (Some x) is = refl
 
-module _ (place leads : List ℕ → List ℕ) (regular : ℕ → Bool) (file journal : Known) where
+module _ {D F S : Type 0} (disk : Disk D F S) (file journal : Known) where
   abbrev Four : Sites
-  Four = sites_of place file.path journal.path
+  Four = sites_of disk.place file.path journal.path
 
   abbrev Clearing : State → Type 0
-  Clearing s = CanClear place leads regular file journal s
+  Clearing s = CanClear disk file journal s
 
   abbrev OtherJournal : ℕ → Type 0
-  OtherJournal n = IsOther place leads regular (working_name journal.path) file journal n
+  OtherJournal n = IsOther disk (working_name journal.path) file journal n
 
   abbrev OtherFile : ℕ → Type 0
-  OtherFile n = IsOther place leads regular (working_name file.path) file journal n
+  OtherFile n = IsOther disk (working_name file.path) file journal n
 
   abbrev Compared : State → ℕ → Type 0
-  Compared s n = IsLeftText s.bytes (s.at (place file.path)) n (s.at (place journal.path)) × CanCompare place file journal n s
+  Compared s n = IsLeftText s.bytes (s.at (disk.place file.path)) n (s.at (disk.place journal.path)) × CanCompare disk file journal n s
 
   abbrev LeftFile : Bool → State → ℕ → Type 0
   LeftFile beside s n = (s.held n ≡ false) × OtherFile n × (IsTrue beside ⊎ Compared s n)
@@ -140,16 +135,16 @@ module _ (place leads : List ℕ → List ℕ) (regular : ℕ → Bool) (file jo
       (λ n left other. (left.0, left.1, other)) clear.left.journal clear.new_journal
 
   one_left : (s : State) (n : ℕ) (beside : Bool) → (IsSome (s.at Four.new_journal) → IsTrue beside)
-      → IsSome (s.at Four.new_journal) ⊎ IsLeftText s.bytes (s.at (place file.path)) n (s.at (place journal.path))
-      → IsSome (s.at Four.new_journal) ⊎ CanCompare place file journal n s → IsTrue beside ⊎ Compared s n
+      → IsSome (s.at Four.new_journal) ⊎ IsLeftText s.bytes (s.at (disk.place file.path)) n (s.at (disk.place journal.path))
+      → IsSome (s.at Four.new_journal) ⊎ CanCompare disk file journal n s → IsTrue beside ⊎ Compared s n
   one_left s n beside told (inl there) other = inl (told there)
   one_left s n beside told (inr left) (inl there) = inl (told there)
   one_left s n beside told (inr left) (inr other) = inr (left, other)
 
   pub file_left : (s : State) (beside : Bool) → (IsSome (s.at Four.new_journal) → IsTrue beside) → Clearing s → IfSome (s.at Four.new_file) (LeftFile beside s)
   file_left s beside told clear =
-      if_both (s.at Four.new_file) (λ n. (s.held n ≡ false) × (IsSome (s.at Four.new_journal) ⊎ IsLeftText s.bytes (s.at (place file.path)) n (s.at (place journal.path))))
-      (λ n. OtherFile n × (IsSome (s.at Four.new_journal) ⊎ CanCompare place file journal n s)) (LeftFile beside s)
+      if_both (s.at Four.new_file) (λ n. (s.held n ≡ false) × (IsSome (s.at Four.new_journal) ⊎ IsLeftText s.bytes (s.at (disk.place file.path)) n (s.at (disk.place journal.path))))
+      (λ n. OtherFile n × (IsSome (s.at Four.new_journal) ⊎ CanCompare disk file journal n s)) (LeftFile beside s)
       (λ n left other. (left.0, other.0, one_left s n beside told left.1 other.1)) clear.left.file clear.new_file
 
   -- by what was found
@@ -183,9 +178,9 @@ seen_there number tells p (Some x) s at seen =
       rights = is.rights ∙ sym (ap s.rights is.number);
     }) seen
 
-pub stands_still : (place leads : List ℕ → List ℕ) (known : Known) (s t : State) → Spares (place known.path) s t → StandsAsSeen place leads known s → StandsAsSeen place leads known t
-stands_still place leads known s t same stands =
-    record { at = same.at ∙ stands.at; seen = seen_still (place known.path) known.look s t same stands.seen; led = stands.led }
+pub stands_still : {D F S : Type 0} (disk : Disk D F S) (known : Known) (s t : State) → Spares (disk.place known.path) s t → StandsAsSeen disk known s → StandsAsSeen disk known t
+stands_still disk known s t same stands =
+    record { at = same.at ∙ stands.at; seen = seen_still (disk.place known.path) known.look s t same stands.seen; led = stands.led }
 
 -- ---- a put goes on
 
@@ -196,16 +191,14 @@ told_fact P (Some a) told = told
 pub same_told : (P : State → Type 0) (o b : Option Story) → b ≡ o → IsTold o P → IsTold b P
 same_told P o b same told = subst (λ b. IsTold b P) (sym same) told
 
-module _ (place leads : List ℕ → List ℕ) (file journal : Known) where
-  pub may_write : (link : List ℕ → Option (List ℕ)) (led : (path : List ℕ) → MatchOption (link path) (leads path ≡ place path) (λ next. leads path ≡ leads next)) (regular : ℕ → Bool)
-      (given_file given_journal : List ℕ) (o : Option Story) → IsTold o (CanPrepare place leads link regular given_file given_journal file journal) → IsTold o (MayWrite place leads regular file)
-  may_write link led regular given_file given_journal o given =
-      still_so (CanPrepare place leads link regular given_file given_journal file journal) (MayWrite place leads regular file) o
-      (λ s can. record {
-        seen = can.unchanged.file_stands.seen;
-        is_regular = can.is_regular;
-        straight = (led_to link place leads led 40 given_file file.path can.file_end).1;
-      }) given
+pub may_write : {D F S : Type 0} (disk : Disk D F S) (led : (path : List ℕ) → MatchOption (disk.link path) (disk.leads path ≡ disk.place path) (λ next. disk.leads path ≡ disk.leads next))
+    (file journal : Known) (given_file given_journal : List ℕ) (o : Option Story) → IsTold o (CanPrepare disk given_file given_journal file journal) → IsTold o (MayWrite disk file)
+may_write disk led file journal given_file given_journal o given =
+    still_so (CanPrepare disk given_file given_journal file journal) (MayWrite disk file) o (λ s can. record {
+      seen = can.unchanged.file_stands.seen;
+      is_regular = can.is_regular;
+      straight = (led_to disk led 40 given_file file.path can.file_end).1;
+    }) given
 
 -- ---- what can be read
 
@@ -221,44 +214,41 @@ none_too_long m k bytes o p long same read given =
     (subst (λ o. Told o (λ s. bytes ≡ take (k + 1) (s.bytes m))) same read) given
 
 -- what was locked there stands as it was seen
-pub is_noted : {X : Type 0} (number : X → ℕ) (tells : X → Option Look) (place leads : List ℕ → List ℕ) (link : List ℕ → Option (List ℕ)) (path given names last : List ℕ) (old : Option X) (s : State)
-    → given ≡ path → names ≡ last → end_of link 40 path ≡ Some last → leads path ≡ place last → s.at (leads path) ≡ option_map number old
-    → IfSome old (λ x. IsSomeAnd (tells x) (IsLookFor s (number x)))
-    → IsNoted place leads link path (record { given = given; path = names; number = option_map number old; look = option_map tells old }) s
-is_noted number tells place leads link path given names last old s of_path is_last ends led at seen =
-    let here : s.at (place names) ≡ option_map number old = ap s.at (ap place is_last ∙ sym led) ∙ at in
+pub is_noted : {D F S : Type 0} (disk : Disk D F S) (path last : List ℕ) (target : Target D F S) (s : State) → string_bytes target.given ≡ path → target.names ≡ last
+    → end_of disk.link 40 path ≡ Some last → disk.leads path ≡ disk.place last → s.at (disk.leads path) ≡ (known disk target).number
+    → IfSome target.old (λ opened. IsSomeAnd (disk.tells opened.seen) (IsLookFor s (disk.number opened.file))) → IsNoted disk path (known disk target) s
+is_noted disk path last target s of_path is_last ends led at seen =
+    let here : s.at (disk.place target.names) ≡ (known disk target).number = ap s.at (ap disk.place is_last ∙ sym led) ∙ at in
     record {
       stands = record {
         at = here;
-        seen = seen_there number tells (place names) old s here seen;
-        led = ap leads of_path ∙ led ∙ sym (ap place is_last);
+        seen = seen_there (λ opened. disk.number opened.file) (λ opened. disk.tells opened.seen) (disk.place target.names) target.old s here seen;
+        led = ap disk.leads of_path ∙ led ∙ sym (ap disk.place is_last);
       };
       ends = ends ∙ sym (ap Some is_last);
     }
 
-pub target_noted : {D F S E : Type 0} (number : F → ℕ) (tells : S → Option Look) (place leads : List ℕ → List ℕ) (link : List ℕ → Option (List ℕ)) (path last text : List ℕ) (opened : OpenFile D F S)
-    (result : Result (Target D F S) E) (o b : Option Story) → b ≡ o → text ≡ last → IfOk result (λ target. string_bytes target.given ≡ path) → IfOk result (λ target. target.names ≡ last)
-    → IfOk result (λ target. target.old ≡ Some opened) → Told o (λ s. end_of link 40 path ≡ Some last) → Told o (λ s. (leads path ≡ place last) × (leads last ≡ place last))
-    → Told b (λ s. s.at (leads text) ≡ Some (number opened.file)) → Told b (λ s. IsSomeAnd (tells opened.seen) (IsLookFor s (number opened.file)))
-    → IfOk result (λ target. Told o (IsNoted place leads link path (known number tells target)))
-target_noted number tells place leads link path last text opened (Err error) o b same is given names old ends led at seen = tt
-target_noted number tells place leads link path last text opened (Ok target) None b same is given names old ends led at seen = tt
-target_noted number tells place leads link path last text opened (Ok target) (Some a) b same is given names old ends led at seen =
-    let at_last = subst (λ b. Told b (λ s. s.at (leads text) ≡ Some (number opened.file))) same at in
-    is_noted (λ opened. number opened.file) (λ opened. tells opened.seen) place leads link path (string_bytes target.given) target.names last target.old a.now given names ends led.0
-    (ap a.now.at (led.0 ∙ sym led.1 ∙ sym (ap leads is)) ∙ at_last ∙ sym (ap (option_map (λ opened. number opened.file)) old))
-    (subst (λ x. IfSome x (λ opened. IsSomeAnd (tells opened.seen) (IsLookFor a.now (number opened.file)))) (sym old)
-    (subst (λ b. Told b (λ s. IsSomeAnd (tells opened.seen) (IsLookFor s (number opened.file)))) same seen))
+pub target_noted : {D F S E : Type 0} (disk : Disk D F S) (path last text : List ℕ) (opened : OpenFile D F S) (result : Result (Target D F S) E) (o b : Option Story) → b ≡ o → text ≡ last
+    → IfOk result (λ target. string_bytes target.given ≡ path) → IfOk result (λ target. target.names ≡ last) → IfOk result (λ target. target.old ≡ Some opened)
+    → Told o (λ s. end_of disk.link 40 path ≡ Some last) → Told o (λ s. (disk.leads path ≡ disk.place last) × (disk.leads last ≡ disk.place last))
+    → Told b (λ s. s.at (disk.leads text) ≡ Some (disk.number opened.file)) → Told b (λ s. IsSomeAnd (disk.tells opened.seen) (IsLookFor s (disk.number opened.file)))
+    → IfOk result (λ target. Told o (IsNoted disk path (known disk target)))
+target_noted disk path last text opened (Err error) o b same is given names old ends led at seen = tt
+target_noted disk path last text opened (Ok target) None b same is given names old ends led at seen = tt
+target_noted disk path last text opened (Ok target) (Some a) b same is given names old ends led at seen =
+    let at_last = subst (λ b. Told b (λ s. s.at (disk.leads text) ≡ Some (disk.number opened.file))) same at in
+    is_noted disk path last target a.now given names ends led.0 (ap a.now.at (led.0 ∙ sym led.1 ∙ sym (ap disk.leads is)) ∙ at_last ∙ sym (ap (option_map (λ opened. disk.number opened.file)) old))
+    (subst (λ x. IfSome x (λ opened. IsSomeAnd (disk.tells opened.seen) (IsLookFor a.now (disk.number opened.file)))) (sym old)
+    (subst (λ b. Told b (λ s. IsSomeAnd (disk.tells opened.seen) (IsLookFor s (disk.number opened.file)))) same seen))
 
 -- what can be locked after links can be at the last path
-pub locked_after : (place leads : List ℕ → List ℕ) (path last text : List ℕ) (L : Type 0) (U : State → ℕ → Type 0) (o b : Option Story) → b ≡ o → text ≡ last
-    → IsTold o (λ s. L × IsSomeAnd (s.at (leads path)) (U s)) → Told o (λ s. (leads path ≡ place last) × (leads last ≡ place last))
-    → IsTold b (λ s. (leads text ≡ place text) × IsSomeAnd (s.at (leads text)) (U s))
-locked_after place leads path last text L U o b same is given led =
-    let Locked : List ℕ → State → Type 0 = λ p s. (leads p ≡ place p) × IsSomeAnd (s.at (leads p)) (U s) in
+pub locked_after : {D F S : Type 0} (disk : Disk D F S) (path last text : List ℕ) (L : Type 0) (U : State → ℕ → Type 0) (o b : Option Story) → b ≡ o → text ≡ last
+    → IsTold o (λ s. L × IsSomeAnd (s.at (disk.leads path)) (U s)) → Told o (λ s. (disk.leads path ≡ disk.place last) × (disk.leads last ≡ disk.place last))
+    → IsTold b (λ s. (disk.leads text ≡ disk.place text) × IsSomeAnd (s.at (disk.leads text)) (U s))
+locked_after disk path last text L U o b same is given led =
+    let Locked : List ℕ → State → Type 0 = λ p s. (disk.leads p ≡ disk.place p) × IsSomeAnd (s.at (disk.leads p)) (U s) in
     subst (λ p. IsTold b (Locked p)) (sym is)
-    (same_told (Locked last) o b same
-    (told_with (λ s. L × IsSomeAnd (s.at (leads path)) (U s)) (λ s. (leads path ≡ place last) × (leads last ≡ place last)) (Locked last) o
+    (same_told (Locked last) o b same (told_with (λ s. L × IsSomeAnd (s.at (disk.leads path)) (U s)) (λ s. (disk.leads path ≡ disk.place last) × (disk.leads last ≡ disk.place last)) (Locked last) o
     (λ s given led. (led.1, subst (λ p. IsSomeAnd (s.at p) (U s)) (led.0 ∙ sym led.1) given.1)) given led))
 
 -- what holds of the file at a path holds of the one that was opened there
@@ -266,19 +256,19 @@ there_opened : (which : Which) (path : List ℕ) (P : ℕ → Type 0) (n : ℕ) 
 there_opened Base path P n there = there
 there_opened Journal path P n there = there
 
-module _ {X : Type 0} (number : X → ℕ) (seen : X → Option Look) (which : Which) (path p : List ℕ) (P : State → ℕ → Type 0) where
-  abbrev MayRead : Option X → State → Type 0
-  MayRead old s = IfSome old (λ x. CanRead (number x) (seen x) s)
+module _ {D F S : Type 0} (disk : Disk D F S) (which : Which) (path p : List ℕ) (P : State → ℕ → Type 0) where
+  abbrev MayRead : Option (OpenFile D F S) → State → Type 0
+  MayRead old s = IfSome old (λ x. CanRead disk x s)
 
-  pub opened_is_read : (old : Option X) (o n : Option Story) → Told o (λ s. s.at p ≡ option_map number old) → IfSome old (λ x. Told o (λ s. IsSomeAnd (seen x) (IsLookFor s (number x))))
-      → n ≡ o → IsTold o (λ s. IsThere which path (λ n. IsShort s n × P s n) (s.at p)) → IsTold n (MayRead old)
+  pub opened_is_read : (old : Option (OpenFile D F S)) (o n : Option Story) → Told o (λ s. s.at p ≡ option_map (λ x. disk.number x.file) old)
+      → IfSome old (λ x. Told o (λ s. IsSomeAnd (disk.tells x.seen) (IsLookFor s (disk.number x.file)))) → n ≡ o
+      → IsTold o (λ s. IsThere which path (λ n. IsShort s n × P s n) (s.at p)) → IsTold n (MayRead old)
   opened_is_read old None n at unwritten same given = absurd given
   opened_is_read None (Some a) n at unwritten same given = subst (λ n. IsTold n (MayRead None)) (sym same) tt
   opened_is_read (Some x) (Some a) n at unwritten same given =
-      subst (λ n. IsTold n (MayRead (Some x))) (sym same)
-      (record {
-        short = (there_opened which path (λ n. IsShort a.now n × P a.now n) (number x) (subst (IsThere which path (λ n. IsShort a.now n × P a.now n)) at given)).0;
-        same = some_so (seen x) (IsLookFor a.now (number x)) (IsLookStill a.now (number x)) (λ look is. (is.number, (is.version, is.rights))) unwritten;
+      subst (λ n. IsTold n (MayRead (Some x))) (sym same) (record {
+        short = (there_opened which path (λ n. IsShort a.now n × P a.now n) (disk.number x.file) (subst (IsThere which path (λ n. IsShort a.now n × P a.now n)) at given)).0;
+        same = some_so (disk.tells x.seen) (IsLookFor a.now (disk.number x.file)) (IsLookStill a.now (disk.number x.file)) (λ look is. (is.number, (is.version, is.rights))) unwritten;
       })
 
 -- ---- a look
@@ -298,60 +288,57 @@ look_failed Journal path R P p (Some a) M N given failed missing taken =
       | inr gone ↦ absurd (taken refl (subst (IsThere Journal path (P a.now)) (missing gone) given.1) gone)
     ]
 
-module _ {X : Type 0} (text : X → List ℕ) (leads : List ℕ → List ℕ) (link : List ℕ → Option (List ℕ)) (regular : ℕ → Bool) (seen : Option (Option Look)) (journal : List ℕ) where
+module _ {X D F S : Type 0} (text : X → List ℕ) (disk : Disk D F S) (seen : Option (Option Look)) (journal : List ℕ) where
   -- what `look_at` asks of what stands there
   abbrev IsLooked : Which → Option X → State → ℕ → Type 0
-  IsLooked which file s n = IsShort s n × (which ≡ Journal → IsOwnJournal (option_map (λ x. s.at (leads (text x))) file) n)
+  IsLooked which file s n = IsShort s n × (which ≡ Journal → IsOwnJournal (option_map (λ x. s.at (disk.leads (text x))) file) n)
 
   abbrev CanLook : Type 0 → Which → Option X → List ℕ → State → Type 0
-  CanLook only which file path s = (only → IsRegularAt leads regular path s) × IsThere which path (IsLooked which file s) (s.at (leads path))
+  CanLook only which file path s = (only → IsRegularAt disk path s) × IsThere which path (IsLooked which file s) (s.at (disk.leads path))
 
-  own : (file : Option X) (s : State) (n : ℕ) → IfSome (option_map text file) (λ p. IsSomeAnd (s.at (leads p)) (λ m. m ≢ n))
-      → IsOwnJournal (option_map (λ x. s.at (leads (text x))) file) n
+  own : (file : Option X) (s : State) (n : ℕ) → IfSome (option_map text file) (λ p. IsSomeAnd (s.at (disk.leads p)) (λ m. m ≢ n)) → IsOwnJournal (option_map (λ x. s.at (disk.leads (text x))) file) n
   own None s n apart = tt
   own (Some x) s n apart = apart
 
-  own_there : (file : Option X) (s : State) (p : List ℕ) (found : Option ℕ) → IsThere Journal p (λ n. IsShort s n × (regular n ≡ true)) found
-      → IfSome found (λ n. IfSome (option_map text file) (λ p. IsSomeAnd (s.at (leads p)) (λ m. m ≢ n))) → IsThere Journal p (IsLooked Journal file s) found
+  own_there : (file : Option X) (s : State) (p : List ℕ) (found : Option ℕ) → IsThere Journal p (CanBeRead disk s) found
+      → IfSome found (λ n. IfSome (option_map text file) (λ p. IsSomeAnd (s.at (disk.leads p)) (λ m. m ≢ n))) → IsThere Journal p (IsLooked Journal file s) found
   own_there file s p None there apart = there
   own_there file s p (Some n) there apart = (there.0, λ _. own file s n apart)
 
-  regular_there : (which : Which) (s : State) (p : List ℕ) (found : Option ℕ) → IsThere which p (λ n. IsShort s n × (regular n ≡ true)) found → IfSome found (λ n. regular n ≡ true)
+  regular_there : (which : Which) (s : State) (p : List ℕ) (found : Option ℕ) → IsThere which p (CanBeRead disk s) found → IfSome found (λ n. disk.regular n ≡ true)
   regular_there Base s p None there = absurd there
   regular_there Base s p (Some n) there = there.1
   regular_there Journal s p None there = tt
   regular_there Journal s p (Some n) there = there.1
 
-  looked : (which : Which) (file : Option X) (s : State) → IsReadable leads link regular Looks (option_map text file) journal seen which s
-      → IsThere which (path_of (option_map text file) journal which) (IsLooked which file s) (s.at (leads (path_of (option_map text file) journal which)))
+  looked : (which : Which) (file : Option X) (s : State) → IsReadable disk Looks (option_map text file) journal seen which s
+      → IsThere which (path_of (option_map text file) journal which) (IsLooked which file s) (s.at (disk.leads (path_of (option_map text file) journal which)))
   looked Base file s may = some_so _ _ (IsLooked Base file s) (λ n is. (is.0, λ never. cc)) may.there
   looked Journal file s may = own_there file s _ _ may.there (may.apart refl refl)
 
   pub readable_looked : (only : Type 0) (which : Which) (file : Option X) (path : List ℕ) (access : Access) (o : Option Story) → path ≡ path_of (option_map text file) journal which
-      → access ≡ Looks → IsTold o (IsReadable leads link regular access (option_map text file) journal seen which) → IsTold o (CanLook only which file path)
+      → access ≡ Looks → IsTold o (IsReadable disk access (option_map text file) journal seen which) → IsTold o (CanLook only which file path)
   readable_looked only which file path access o is looks given =
       subst (λ path. IsTold o (CanLook only which file path)) (sym is)
       (still_so _ _ o (λ s may. (λ _. regular_there which s _ _ may.there, looked which file s may))
-      (subst (λ access. IsTold o (IsReadable leads link regular access (option_map text file) journal seen which)) looks given))
+      (subst (λ access. IsTold o (IsReadable disk access (option_map text file) journal seen which)) looks given))
 
   -- what stands there can be locked too
   abbrev CanLock : Which → List ℕ → State → Type 0
-  CanLock which path s = IsThere which path (λ n. IsShort s n × IsLockable link regular path (other_for which seen) s n) (s.at (leads path))
+  CanLock which path s = IsThere which path (λ n. IsShort s n × IsLockable disk path (other_for which seen) s n) (s.at (disk.leads path))
 
-  lockable : (which : Which) (path : List ℕ) (s : State) (found : Option ℕ) → IsThere which path (λ n. IsShort s n × (regular n ≡ true)) found
-      → IfSome found (λ n. IsUnlocked (other_for which seen) s n × IsSome (end_of link 40 path))
-      → IsThere which path (λ n. IsShort s n × IsLockable link regular path (other_for which seen) s n) found
+  lockable : (which : Which) (path : List ℕ) (s : State) (found : Option ℕ) → IsThere which path (CanBeRead disk s) found
+      → IfSome found (λ n. IsUnlocked (other_for which seen) s n × IsSome (end_of disk.link 40 path)) → IsThere which path (λ n. IsShort s n × IsLockable disk path (other_for which seen) s n) found
   lockable Base path s None there free = absurd there
   lockable Base path s (Some n) there free = (there.0, record { few_links = free.1; is_regular = there.1; unlocked = free.0 })
   lockable Journal path s None there free = there
   lockable Journal path s (Some n) there free = (there.0, record { few_links = free.1; is_regular = there.1; unlocked = free.0 })
 
   pub readable_locked : (which : Which) (file : Option X) (path : List ℕ) (access : Access) (o : Option Story) → path ≡ path_of (option_map text file) journal which
-      → access ≡ Changes → IsTold o (IsReadable leads link regular access (option_map text file) journal seen which) → IsTold o (CanLock which path)
+      → access ≡ Changes → IsTold o (IsReadable disk access (option_map text file) journal seen which) → IsTold o (CanLock which path)
   readable_locked which file path access o is changes given =
       subst (λ path. IsTold o (CanLock which path)) (sym is)
-      (still_so _ _ o (λ s may. lockable which _ s _ may.there (may.free refl))
-      (subst (λ access. IsTold o (IsReadable leads link regular access (option_map text file) journal seen which)) changes given))
+      (still_so _ _ o (λ s may. lockable which _ s _ may.there (may.free refl)) (subst (λ access. IsTold o (IsReadable disk access (option_map text file) journal seen which)) changes given))
 
 -- ---- a call of the home
 
@@ -362,15 +349,10 @@ seen_file knows (Some x) = refl
 pub noted_memory : (failure : Option Failure) (one : Failure) → failure ≡ Some one → FailedForMemory one → IsSomeAnd failure FailedForMemory
 noted_memory failure one is memory = subst (λ f. IsSomeAnd f FailedForMemory) (sym is) memory
 
-module _ (place leads : List ℕ → List ℕ) (link : List ℕ → Option (List ℕ)) (regular : ℕ → Bool) (kept : Kept) (works still : Type 0) (failure : Option Failure) (story : Option Story) where
-  abbrev pub Excused : Call → Type 0
-  Excused call = IsExcused place leads link regular kept works still failure story call
-
-  pub read_excused : (which : Which) (fault : Fault) → fault ≡ StoreFailed → (works → still)
-      → (works → IsTold story (HadAll place leads link regular kept (unread which)) → IsSomeAnd failure FailedForMemory)
-      → Excused (read_call which (Err fault))
-  read_excused which fault is works_still memory =
-      subst (λ fault. Excused (read_call which (Err fault))) (sym is) (record { works_still = works_still; for_memory = memory })
+pub read_excused : {R D F S : Type 0} (disk : Disk D F S) (old new : DiskHome R D F S) (which : Which) (fault : Fault) → fault ≡ StoreFailed → (disk.works old.disk → disk.works new.disk)
+    → (disk.works old.disk → IsTold (disk.story old.disk) (HadAll disk (kept disk old) (unread which)) → IsSomeAnd new.failure FailedForMemory) → IsExcused disk old (read_call which (Err fault)) new
+read_excused disk old new which fault is works_still memory =
+    subst (λ fault. IsExcused disk old (read_call which (Err fault)) new) (sym is) (record { works_still = works_still; for_memory = memory })
 
 -- what a put needs, by the files that were read
 both_known : {X : Type 0} (knows : X → Known) (x y : Option X) (Q : Known → Known → Type 0) → IsSomeAnd (option_map knows x) (λ file. IsSomeAnd (option_map knows y) (λ journal. Q file journal))
@@ -384,24 +366,22 @@ all_short : (journal : List ℕ) (file : Option (List ℕ)) → AllByRecursion (
 all_short journal None all = (all.0, tt)
 all_short journal (Some bytes) all = (all.0, all.1.0)
 
-module _ {X : Type 0} (knows : X → Known) (place leads : List ℕ → List ℕ) (link : List ℕ → Option (List ℕ)) (regular : ℕ → Bool)
-    (access : Access) (file_path : Option (List ℕ)) (journal_path : List ℕ) (last : LastPut) (x y : Option X) (journal : List ℕ) (file : Option (List ℕ)) where
-  abbrev home_kept : Kept
-  home_kept = record { access = access; file = file_path; journal = journal_path; last = last; old_file = option_map knows x; old_journal = option_map knows y }
+pub of_both : {X : Type 0} (x y : Option X) (a b : X) (L M : Type 0) (Q : X → X → State → Type 0) (o : Option Story) → x ≡ Some a → y ≡ Some b
+    → IsTold o (λ s. L × M × IsSomeAnd x (λ x. IsSomeAnd y (λ y. Q x y s))) → IsTold o (λ s. M × Q a b s)
+of_both x y a b L M Q o at_x at_y =
+    still_so (λ s. L × M × IsSomeAnd x (λ x. IsSomeAnd y (λ y. Q x y s))) (λ s. M × Q a b s) o
+    (λ s can. (can.1, some_known y b (λ y. Q a y s) at_y (some_known x a (λ x. IsSomeAnd y (λ y. Q x y s)) at_x can.2)))
 
-  abbrev pub Begins : List ℕ → List ℕ → State → Type 0
-  Begins given_file given_journal s = IsSomeAnd x (λ x. IsSomeAnd y (λ y. CanPrepare place leads link regular given_file given_journal (knows x) (knows y) s))
-
+module _ {R D F S : Type 0} (disk : Disk D F S) (home : DiskHome R D F S) (journal : List ℕ) (file : Option (List ℕ)) where
   abbrev pub PutNeeds : List ℕ → List ℕ → State → Type 0
-  PutNeeds given_file given_journal s =
-      (length journal ≤ 1_073_741_824) × IfSome file (λ bytes. length bytes ≤ 1_073_741_824) × Begins given_file given_journal s
+  PutNeeds given_file given_journal s = (length journal ≤ 1_073_741_824) × IfSome file (λ bytes. length bytes ≤ 1_073_741_824)
+      × IsSomeAnd home.both.file (λ x. IsSomeAnd home.both.journal (λ y. CanPrepare disk given_file given_journal (known disk x) (known disk y) s))
 
-  pub put_needs : (given_file given_journal : List ℕ) (o : Option Story) → given_file ≡ path_of file_path journal_path Base → given_journal ≡ journal_path
-      → IsTold o (CanPut place leads link regular home_kept (writes_by journal file)) → IsTold o (PutNeeds given_file given_journal)
+  pub put_needs : (given_file given_journal : List ℕ) (o : Option Story) → given_file ≡ path_of (kept disk home).file (kept disk home).journal Base → given_journal ≡ (kept disk home).journal
+      → IsTold o (CanPut disk (kept disk home) (writes_by journal file)) → IsTold o (PutNeeds given_file given_journal)
   put_needs given_file given_journal o of_file of_journal given =
-      subst (λ f. IsTold o (PutNeeds f given_journal)) (sym of_file)
-      (subst (λ j. IsTold o (PutNeeds (path_of file_path journal_path Base) j)) (sym of_journal)
-      (still_so (CanPut place leads link regular home_kept (writes_by journal file)) (PutNeeds (path_of file_path journal_path Base) journal_path) o
-      (λ s can.
+      let file_path = path_of (kept disk home).file (kept disk home).journal Base in
+      subst (λ f. IsTold o (PutNeeds f given_journal)) (sym of_file) (subst (λ j. IsTold o (PutNeeds file_path j)) (sym of_journal)
+      (still_so (CanPut disk (kept disk home) (writes_by journal file)) (PutNeeds file_path (kept disk home).journal) o (λ s can.
       let short = all_short journal file can.short in
-      (short.0, short.1, both_known knows x y (λ f j. CanPrepare place leads link regular (path_of file_path journal_path Base) journal_path f j s) can.begins)) given))
+      (short.0, short.1, both_known (known disk) home.both.file home.both.journal (λ f j. CanPrepare disk file_path (kept disk home).journal f j s) can.begins)) given))

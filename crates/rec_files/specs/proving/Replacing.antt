@@ -1,6 +1,7 @@
 -- The steps in which a file and its journal are replaced.
 use Rattle.std.specs.Prelude.{◌≡◌, ◌⊎◌, ◌≤◌, ℕ, Bool, true, false, List, length, Option, Some, None, IfSome}
 use Rattle.rec_disk.specs.Disk.{State, Story, Look, Told, AtAnyMoment, renamed, folder_synced}
+use Rattle.rec_disk.specs.declared.disk.Disk.{Ghosts as Disk}
 use Rattle.rec_disk.specs.Lasting.{Spares}
 use Rattle.rec_disk.specs.proving.Places.{Outlasts, IsSettled, Waits}
 use Rattle.rec_tools.specs.Home.{Contents, Write}
@@ -54,9 +55,10 @@ IsPlaced folder syncs w p s t =
     (t ≡ folder_synced folder (renamed s w p) (folder p)) ⊎ ((t ≡ renamed s w p) × (syncs (folder p) ≡ false))
 
 -- the paths of the file and of the journal are those to which the given ones lead
-pub record AreResolved (place leads : List ℕ → List ℕ) (given_file given_journal file journal : List ℕ) : Type 0 where
-  pub file_is : place file ≡ leads given_file
-  pub journal_is : place journal ≡ leads given_journal
+pub record AreResolved {D F S : Type 0} (disk : Disk D F S) (given_file given_journal file journal : List ℕ)
+    : Type 0 where
+  pub file_is : disk.place file ≡ disk.leads given_file
+  pub journal_is : disk.place journal ≡ disk.leads given_journal
 
 -- ---- what is seen of the two, whatever is left
 
@@ -100,10 +102,10 @@ abbrev pub own_of : Sites → Places
 own_of sites = record { file = sites.file; journal = sites.journal }
 
 -- a put by the places of the home, which succeeds or not
-pub record IsPut (place folder : List ℕ → List ℕ) (syncs : List ℕ → Bool) (p : Places) (writes : List Write) (ok : Bool)
+pub record IsPut {D F S : Type 0} (disk : Disk D F S) (p : Places) (writes : List Write) (ok : Bool)
     (old new : Option Story) : Type 0 where
-  pub any_moment : SecurePut folder syncs p writes old new
-  pub lasts : ok ≡ true → LastingPut folder syncs p writes old new
+  pub any_moment : SecurePut disk p writes old new
+  pub lasts : ok ≡ true → LastingPut disk p writes old new
   pub alone : length writes ≤ 1 → AtAnyMoment old new (Spares p.file)
-  pub touches : TouchesOwn place p old new
-  pub recovers : RecoversAt place folder syncs p writes old new
+  pub touches : TouchesOwn disk p old new
+  pub recovers : RecoversAt disk p writes old new

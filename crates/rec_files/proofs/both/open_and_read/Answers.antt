@@ -10,7 +10,7 @@ returns-in_err-bytes-clause-succeeds g c works =
       read.0,
       λ given.
           let memory : IsMemory c.in_err-bytes.field-0.0 =
-          read.1 (opened_is_read (λ opened. g.D.Disk.number opened.file) (λ opened. g.D.Disk.tells opened.seen) c.args.which c.args.path.now (g.D.Disk.leads c.args.path.now) _
+          read.1 (opened_is_read g.D.Disk c.args.which c.args.path.now (g.D.Disk.leads c.args.path.now) _
           c.in_ok-target.target.old _ _ c.in_ok-target.ensures.old c.in_ok-target.ensures.seen c.in_ok-target.ensures.same given) in
           grind (arith, common_steps),
     )

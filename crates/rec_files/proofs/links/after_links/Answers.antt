@@ -13,7 +13,7 @@ returns-in-None-clause-last g c =
 pub returns-in-None-clause-led : goal.returns-in-None-clause-led
 returns-in-None-clause-led g c =
     told_so (λ s. end_of g.D.Disk.link 40 c.args.path.now ≡ Some (string_bytes c.loop.path)) _ _
-    (λ s is. led_to g.D.Disk.link g.D.Disk.place g.D.Disk.leads g.met.D.Disk.led 40 c.args.path.now (string_bytes c.loop.path) is) (returns-in-None-clause-last g c)
+    (λ s is. led_to g.D.Disk g.met.D.Disk.led 40 c.args.path.now (string_bytes c.loop.path) is) (returns-in-None-clause-last g c)
 
 pub loop-preserved : goal.loop-preserved
 loop-preserved g c = record {

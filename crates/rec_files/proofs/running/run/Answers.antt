@@ -1,6 +1,5 @@
 use Rattle.std.proofs.Common.{refl}
-use Rattle.std.specs.Prelude.{option_map, string_bytes}
-use Rattle.rec_files.specs.OnDisk.{places_by}
+use Rattle.rec_files.specs.OnDisk.{places_of}
 use Rattle.rec_files.proofs.lemmas.Requests.{request_on}
 use Rattle.rec_files.proofs.lemmas.Steps.{if_some_so}
 use Rattle.rec_files.proofs.running.run.Goals as goal
@@ -8,10 +7,9 @@ use Rattle.rec_files.proofs.running.run.Goals as goal
 pub returns : goal.returns
 returns g c =
     let (calls, printed, out, done) = c.run.ensures.attempts in
-    let p = places_by g.D.Disk.leads (option_map string_bytes c.args.home.now.file) (string_bytes c.args.home.now.journal) in
+    let p = places_of g.D.Disk c.args.home.now in
     let all =
-    request_on g.D.Disk.place g.D.Disk.leads g.D.Disk.link g.D.Disk.folder g.D.Disk.syncs g.D.Disk.regular g.D.Disk.number g.D.Disk.tells g.D.Disk.story g.D.Disk.works
-    c.stops_are_steps.ensures.stops c.args.request.now c.run.result calls printed c.args.home.now c.run.new.home done p refl in
+    request_on g.D.Disk c.stops_are_steps.ensures.stops c.args.request.now c.run.result calls printed c.args.home.now c.run.new.home done p refl in
     record {
       attempts = c.run.ensures.attempts;
       refusals = c.run.ensures.refusals;

@@ -1,6 +1,5 @@
 use Rattle.std.proofs.Common.{refl}
-use Rattle.std.specs.Prelude.{option_map, string_bytes}
-use Rattle.rec_files.specs.OnDisk.{places_by}
+use Rattle.rec_files.specs.OnDisk.{places_of}
 use Rattle.rec_files.proofs.lemmas.Requests.{moves_at}
 use Rattle.rec_files.proofs.running.run_through.Goals as goal
 
@@ -12,8 +11,6 @@ returns g c =
         answers,
         ends,
         (calls, printed, silent, done),
-        moves_at g.D.Disk.place g.D.Disk.leads g.D.Disk.link g.D.Disk.folder g.D.Disk.syncs g.D.Disk.regular g.D.Disk.number g.D.Disk.tells g.D.Disk.story
-            g.D.Disk.works c.stops_are_steps.ensures.stops c.args.direction c.args.number c.args.home.now c.run_through.new.home
-            (places_by g.D.Disk.leads (option_map string_bytes c.args.home.now.file) (string_bytes c.args.home.now.journal)) refl answers calls printed done,
+        moves_at g.D.Disk c.stops_are_steps.ensures.stops c.args.direction c.args.number c.args.home.now c.run_through.new.home (places_of g.D.Disk c.args.home.now) refl answers calls printed done,
       );
     }

@@ -14,9 +14,7 @@ returns-clause-succeeds g c works =
     let read = c.read.ensures.succeeds (c.in_ok-opened.ensures.succeeds (c.in_ok-file.ensures.excused works).0).0 in (
       read.0,
       λ given.
-          read.1
-          (opened_is_read (λ opened. g.D.Disk.number opened.file) (λ opened. g.D.Disk.tells opened.seen) Base c.args.path.now p (λ s n. Unit {0})
-          (Some c.in_ok-opened.opened) (g.D.Disk.story c.args.disk.now) (g.D.Disk.story c.new.new.disk)
+          read.1 (opened_is_read g.D.Disk Base c.args.path.now p (λ s n. Unit {0}) (Some c.in_ok-opened.opened) (g.D.Disk.story c.args.disk.now) (g.D.Disk.story c.new.new.disk)
           (subst (λ file. Told (g.D.Disk.story c.args.disk.now) (λ s. s.at p ≡ Some (g.D.Disk.number file))) (sym c.in_ok-opened.ensures.file) c.in_ok-file.ensures.opened)
           (told_same _ (g.D.Disk.story c.args.disk.now) (g.D.Disk.story c.open.new.self) c.open.ensures.same c.in_ok-opened.ensures.seen) (c.new.ensures.same ∙ c.open.ensures.same)
           (still_so (λ s. IsSomeAnd (s.at p) (IsShort s)) (λ s. IsSomeAnd (s.at p) (λ n. IsShort s n × Unit {0})) (g.D.Disk.story c.args.disk.now)

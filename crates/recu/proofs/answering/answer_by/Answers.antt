@@ -26,8 +26,7 @@ returns g c =
     record {
       answers = (
         done,
-        subst (λ before. Answers g.D.Disk.place g.D.Disk.leads g.D.Disk.folder g.D.Disk.syncs g.D.Disk.story g.D.Disk.works
-            (HomeGoes g.D.Disk.place g.D.Disk.leads g.D.Disk.link g.D.Disk.folder g.D.Disk.syncs g.D.Disk.regular g.D.Disk.number g.D.Disk.tells g.D.Disk.story g.D.Disk.works)
+        subst (λ before. Answers g.D.Disk (HomeGoes g.D.Disk)
             c.args.home.now done before (out_of g.W.Write.contents c.answer_to-answer.new.out) c.args.job.now c.answer_to-answer.result)
             (sym (new_output g.W.Write.contents c.in-Ok.out c.args.writer c.in-Ok.ensures.writer c.in-Ok.ensures.empty
             c.in-Ok.ensures.sound)) answered,

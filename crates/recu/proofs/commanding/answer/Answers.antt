@@ -10,9 +10,7 @@ returns-in-Ok g c = record {
   answer = (
     Ok c.in-Ok.line,
     c.in-Ok.ensures.parsed,
-    replied (λ told. IsDone g.D.Disk.place g.D.Disk.leads g.D.Disk.folder g.D.Disk.syncs g.D.Disk.story g.D.Disk.works
-        (HomeGoes g.D.Disk.place g.D.Disk.leads g.D.Disk.link g.D.Disk.folder g.D.Disk.syncs g.D.Disk.regular g.D.Disk.number g.D.Disk.tells g.D.Disk.story g.D.Disk.works)
-        g.D.Disk.link c.args.disk c.carry_out-answer.result.1 (g.W.Write.contents c.args.out)
+    replied (λ told. IsDone g.D.Disk (HomeGoes g.D.Disk) c.args.disk c.carry_out-answer.result.1 (g.W.Write.contents c.args.out)
         (option_map (out_of g.W.Write.contents) c.carry_out-answer.result.2) c.in-Ok.line told
         × (IsTrue c.has_lost_reader-is_lost.result ↔ IsSomeAnd c.carry_out-answer.result.2 HasLostReader))
         c.carry_out-answer.result.0 c.with_reply.result c.with_reply.ensures.reply c.with_reply.ensures.fault

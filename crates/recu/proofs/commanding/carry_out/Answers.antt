@@ -10,7 +10,7 @@ returns-in-Ok g c =
         Ok (task.job, option_map string_bytes task.paths.file, option_map string_bytes task.paths.journal),
         c.in-Ok.ensures.found,
         record {
-          disk = done.disk;
+          own = done.own;
           same = done.same ∙ c.task_of.ensures.same;
           works_still = λ works. done.works_still (c.task_of.ensures.works works);
           home = done.home;

@@ -15,8 +15,8 @@ ok_is (Err e) = false
 
 pub returns-in_ok-text-in-Some-clause-empty : goal.returns-in_ok-text-in-Some-clause-empty
 returns-in_ok-text-in-Some-clause-empty g c full =
-    subst (λ file. IsTextAtIf g.D.Disk.leads (g.D.Disk.story c.args.disk.now) (option_map string_bytes file) (Some [])) (sym c.in-Some.is) (λ apart.
+    subst (λ file. IsTextAtIf g.D.Disk (g.D.Disk.story c.args.disk.now) (option_map string_bytes file) (Some [])) (sym c.in-Some.is) (λ apart.
     let named = c.file_path.ensures (subst (λ p. p ≢ codes "-") (sym c.as_str.ensures.value) apart) ∙ c.as_str.ensures.value in
     let nothing = none_of c.in_ok-text-in-Some.text (ap (λ t. length t == 0) (sym c.as_slice.ensures) ∙ sym c.is_empty.ensures ∙ ap ok_is full) in
-    subst (λ p. IsTextAt g.D.Disk.leads (g.D.Disk.story c.args.disk.now) p []) named
-    (subst (IsTextAt g.D.Disk.leads (g.D.Disk.story c.args.disk.now) c.file_path.result.now) nothing c.in_ok-text-in-Some.ensures.text) apart)
+    subst (λ p. IsTextAt g.D.Disk (g.D.Disk.story c.args.disk.now) p []) named
+    (subst (IsTextAt g.D.Disk (g.D.Disk.story c.args.disk.now) c.file_path.result.now) nothing c.in_ok-text-in-Some.ensures.text) apart)

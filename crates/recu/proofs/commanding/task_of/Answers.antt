@@ -8,7 +8,7 @@ returns-in_err-paths-clause-refused g c =
     rw (kept_error c.from_residual-in_err-paths.ensures.1) (inr (
       c.in_ok-job.job,
       c.in_ok-job.ensures.job,
-      inl (subst (λ story. ArePathsOf g.D.Disk.place g.D.Disk.leads g.D.Disk.link story (option_map string_bytes c.args.line.file) c.args.line.journal (Err c.in_err-paths.field-0.0))
+      inl (subst (λ story. ArePathsOf g.D.Disk story (option_map string_bytes c.args.line.file) c.args.line.journal (Err c.in_err-paths.field-0.0))
           c.in_ok-job.ensures.same c.in_err-paths.ensures.refused),
     ))
 

@@ -11,8 +11,7 @@ returns-in_err-told-clause-succeeds g c = rw (← c.disk.view_is) λ works.
       noted.0,
       λ had.
           rw (kept_error c.from_residual.ensures.1)
-          (c.in_err-told.ensures.memory (noted.1
-          (can_go_on g.D.Disk.place g.D.Disk.leads g.D.Disk.link g.D.Disk.regular (kept g.D.Disk.number g.D.Disk.tells c.args.self.now) c.args.which _ _ c.as_str-journal.ensures.value had))),
+          (c.in_err-told.ensures.memory (noted.1 (can_go_on g.D.Disk (kept g.D.Disk c.args.self.now) c.args.which _ _ c.as_str-journal.ensures.value had))),
     )
 
 pub returns-in_err-bytes-clause-succeeds : goal.returns-in_err-bytes-clause-succeeds
@@ -21,7 +20,6 @@ returns-in_err-bytes-clause-succeeds g c = rw (← c.disk.view_is) λ works.
       read.0,
       λ had.
           rw (kept_error c.from_residual-in_err-bytes.ensures.1)
-          (c.in_err-bytes.ensures.memory (read.1
-          (can_read_still g.D.Disk.place g.D.Disk.leads g.D.Disk.link g.D.Disk.regular (kept g.D.Disk.number g.D.Disk.tells c.args.self.now) c.args.which _ _ _ c.let_go-noted.ensures.same
-          (sym (seen_file (known g.D.Disk.number g.D.Disk.tells) c.args.self.now.both.file)) had))),
+          (c.in_err-bytes.ensures.memory (read.1 (can_read_still g.D.Disk (kept g.D.Disk c.args.self.now) c.args.which _ _ _ c.let_go-noted.ensures.same
+          (sym (seen_file (known g.D.Disk) c.args.self.now.both.file)) had))),
     )

@@ -21,13 +21,13 @@ returns-in_err-old-clause-succeeds g c = λ works.
       locked.0,
       λ given.
           let memory : IsMemory c.in_err-old.field-0.0 =
-          locked.1 (locked_after g.D.Disk.place g.D.Disk.leads c.args.given.now (string_bytes c.in_ok-path.path) c.as_str.result.now _ _ _ _ c.in_ok-path.ensures.same c.as_str.ensures.value given
+          locked.1 (locked_after g.D.Disk c.args.given.now (string_bytes c.in_ok-path.path) c.as_str.result.now _ _ _ _ c.in_ok-path.ensures.same c.as_str.ensures.value given
           c.in_ok-path.ensures.led) in
           grind (arith, common_steps),
     )
 
 pub returns-clause-noted : goal.returns-clause-noted
 returns-clause-noted g c =
-    target_noted g.D.Disk.number g.D.Disk.tells g.D.Disk.place g.D.Disk.leads g.D.Disk.link c.args.given.now (string_bytes c.in_ok-path.path) c.as_str.result.now c.in_ok-old.old c.at.result _ _
+    target_noted g.D.Disk c.args.given.now (string_bytes c.in_ok-path.path) c.as_str.result.now c.in_ok-old.old c.at.result _ _
     c.in_ok-path.ensures.same c.as_str.ensures.value c.at.ensures.given c.at.ensures.names c.at.ensures.old c.in_ok-path.ensures.last c.in_ok-path.ensures.led c.in_ok-old.ensures.opened
     c.in_ok-old.ensures.seen

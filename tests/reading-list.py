@@ -27,6 +27,7 @@ CLAUSES = [
     ("rec_files", "run", "recovers"),
     ("rec_files", "run", "attempts"),
     ("recu", "status", "status"),
+    ("recu", "starts_are_runs", "guarantee"),
 ]
 # What each request asks for, with the definitions of rec_tools in which it stands.
 MEANINGS = {

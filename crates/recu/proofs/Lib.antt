@@ -1,2 +1,3 @@
 mod AnswerLemmas
 mod AnswerExamples
+mod StartLemmas

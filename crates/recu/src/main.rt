@@ -4,6 +4,7 @@
 mod answering;
 mod commanding;
 mod job;
+mod laws;
 mod saying;
 
 use commanding::status;
